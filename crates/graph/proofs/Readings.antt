@@ -1,0 +1,145 @@
+-- Each reading of a ring, from any place in either direction, is a ring of the same kind, and reads every place.
+use mathlib.Core.Path.{_≡_, refl, sym, _∙_, ap, subst}
+use mathlib.Core.Logic.{_≢_, _⊎_, inl, inr}
+use mathlib.Core.List.{List}
+use Prim.Native.Nat.{ℕ, zero, suc, _+_, _-_, _%_, _≤_, _<_, min}
+use native.Mathlib.Nat.{mod-eq-of-lt, mod-eq-sub-mod, mod-lt}
+use native.Mathlib.Decide.{decLe, decLt}
+use native.Mathlib.Omega.{arith}
+use lib.ListN.{length, getD}
+use Rattle.graph.specs.Graph.{around, Distance, Ring, ShortestPathRing}
+use Rattle.graph.specs.Writing.{Onwards, Backwards, Reading}
+use Rattle.graph.proofs.Distances.{distance-back}
+use Rattle.graph.proofs.Rings.{ring-by-distances}
+
+-- x is a, taken round a ring of k
+abbrev pub Wrapped : ℕ → ℕ → ℕ → Type 0
+Wrapped k a x = ((x ≡ a) × (a < k)) ⊎ (x + k ≡ a)
+
+pub wrap : (k a : ℕ) → a < k + k → Wrapped k a (a % k)
+wrap k a h = go (decLt a k)
+  where
+    go : Dec (a < k) → Wrapped k a (a % k)
+    go (yes l) = inl (mod-eq-of-lt l, l)
+    go (no l) =
+        let e : a % k ≡ (a - k) % k = mod-eq-sub-mod (omega arith) in
+        let f : (a - k) % k ≡ a - k = mod-eq-of-lt (omega arith) in
+        inr (omega arith)
+
+pub wrapped : (k a x y : ℕ) → Wrapped k a x → Wrapped k a y → x ≡ y
+wrapped k a x y (inl e) (inl f) = omega arith
+wrapped k a x y (inl e) (inr f) = absurd (omega arith)
+wrapped k a x y (inr e) (inl f) = absurd (omega arith)
+wrapped k a x y (inr e) (inr f) = omega arith
+
+-- two places read round a ring, onwards or backwards, lie as far apart as before
+abbrev Chord : ℕ → ℕ → ℕ → ℕ → Type 0
+Chord k g x y = ((x < y) × (around k (y - x) ≡ around k g)) ⊎ ((y < x) × (around k (x - y) ≡ around k g))
+
+chord : (k g a b x y : ℕ) → 0 < g → g < k → a < k + k → b < k + k → Wrapped k a x → Wrapped k b y → (a + g ≡ b) ⊎ (b + g ≡ a) → Chord k g x y
+chord k g a b x y h l la lb (inl e) (inl f) (inl d) = inl (omega arith)
+chord k g a b x y h l la lb (inl e) (inl f) (inr d) = inr (omega arith)
+chord k g a b x y h l la lb (inl e) (inr f) (inl d) = inr (omega arith)
+chord k g a b x y h l la lb (inl e) (inr f) (inr d) = absurd (omega arith)
+chord k g a b x y h l la lb (inr e) (inl f) (inl d) = absurd (omega arith)
+chord k g a b x y h l la lb (inr e) (inl f) (inr d) = inl (omega arith)
+chord k g a b x y h l la lb (inr e) (inr f) (inl d) = inl (omega arith)
+chord k g a b x y h l la lb (inr e) (inr f) (inr d) = inr (omega arith)
+
+module _ {Vertex : Type 0} (o : Vertex) where
+  -- the places x and y of r that are read at i and j of s
+  record Pair (r s : List Vertex) (i j : ℕ) : Type 0 where
+    x : ℕ
+    y : ℕ
+    below-x : x < length r
+    below-y : y < length r
+    at-i : getD s i o ≡ getD r x o
+    at-j : getD s j o ≡ getD r y o
+    alike : Chord (length r) (j - i) x y
+
+  pair : (r s : List Vertex) → Reading o r s → (i j : ℕ) → i < j → j < length r → Pair r s i j
+  pair r s R i j l k = go (R .reads)
+    where
+      lm : R .start < length r
+      lm = R .starts
+
+      from : (a b : ℕ) → a < length r + length r → b < length r + length r → getD s i o ≡ getD r (a % length r) o → getD s j o ≡ getD r (b % length r) o
+          → (a + (j - i) ≡ b) ⊎ (b + (j - i) ≡ a) → Pair r s i j
+      from a b la lb ea eb d = record {
+        x = a % length r;
+        y = b % length r;
+        below-x = mod-lt a (omega arith);
+        below-y = mod-lt b (omega arith);
+        at-i = ea;
+        at-j = eb;
+        alike = chord (length r) (j - i) a b (a % length r) (b % length r) (omega arith) (omega arith) la lb (wrap (length r) a la) (wrap (length r) b lb) d;
+      }
+
+      go : Onwards o r s (R .start) ⊎ Backwards o r s (R .start) → Pair r s i j
+      go (inl f) = from (R .start + i) (R .start + j) (omega (arith, lm)) (omega (arith, lm)) (f i (omega arith)) (f j k) (inl (omega arith))
+      go (inr f) = from (R .start + (length r - i)) (R .start + (length r - j)) (omega (arith, lm)) (omega (arith, lm)) (f i (omega arith)) (f j k) (inr (omega arith))
+
+  module _ (Bonded : Vertex → Vertex → Type 0) (back : (x y : Vertex) → Bonded x y → Bonded y x) (r s : List Vertex) (R : Reading o r s) where
+    pub reading-ring : Ring Bonded o r → Ring Bonded o s
+    reading-ring h = record {
+      three = omega (arith, R .alike, h .three);
+      different = λ i j l k. let p = pair r s R i j l (omega (arith, R .alike)) in λ q. differ (j - i) (p .x) (p .y) (p .below-x) (p .below-y) (p .alike) (sym (p .at-i) ∙ q ∙ p .at-j);
+      next = λ i l. let p = pair r s R i (suc i) (omega arith) (omega (arith, R .alike)) in rw (p .at-i, p .at-j) (near (suc i - i) (p .x) (p .y) (p .below-x) (p .below-y) (omega arith) (omega (arith, h .three)) (p .alike));
+      closes = rw (R .alike) (let p = pair r s R 0 (length r - 1) (omega (arith, h .three)) (omega (arith, h .three)) in
+          rw (p .at-i, p .at-j) (back (getD r (p .x) o) (getD r (p .y) o) (near (length r - 1 - 0) (p .x) (p .y) (p .below-x) (p .below-y) (omega (arith, h .three)) (omega (arith, h .three)) (p .alike))));
+    }
+      where
+        differ : (g x y : ℕ) → x < length r → y < length r → Chord (length r) g x y → getD r x o ≢ getD r y o
+        differ g x y lx ly (inl c) = h .different x y (c .0) ly
+        differ g x y lx ly (inr c) = λ q. h .different y x (c .0) lx (sym q)
+
+        step : (x y : ℕ) → x < y → y < length r → around (length r) (y - x) ≡ 1 → Bonded (getD r x o) (getD r y o)
+        step x y l k a = go (decLe y (suc x))
+          where
+            go : Dec (y ≤ suc x) → Bonded (getD r x o) (getD r y o)
+            go (yes d) = let q : suc x ≡ y = omega arith in subst (λ z. Bonded (getD r x o) (getD r z o)) q (h .next x (omega arith))
+            go (no d) =
+                let q : 0 ≡ x = omega arith in
+                let t : length r - 1 ≡ y = omega arith in
+                back (getD r y o) (getD r x o) (subst (λ z. Bonded (getD r y o) (getD r z o)) q (subst (λ z. Bonded (getD r z o) (getD r 0 o)) t (h .closes)))
+
+        near : (g x y : ℕ) → x < length r → y < length r → around (length r) g ≡ 1 → 3 ≤ length r → Chord (length r) g x y → Bonded (getD r x o) (getD r y o)
+        near g x y lx ly a t (inl c) = step x y (c .0) ly (c .1 ∙ a)
+        near g x y lx ly a t (inr c) = back (getD r y o) (getD r x o) (step y x (c .0) lx (c .1 ∙ a))
+
+    pub reading-shortest : ShortestPathRing Bonded o r → ShortestPathRing Bonded o s
+    reading-shortest h = ring-by-distances Bonded back o s (omega (arith, R .alike, h .ring .three))
+        (λ i j l k.
+        let p = pair r s R i j l (omega (arith, R .alike)) in
+        rw (R .alike, p .at-i, p .at-j) (far (j - i) (p .x) (p .y) (p .below-x) (p .below-y) (p .alike)))
+      where
+        far : (g x y : ℕ) → x < length r → y < length r → Chord (length r) g x y → Distance Bonded (getD r x o) (getD r y o) (around (length r) g)
+        far g x y lx ly (inl c) = subst (λ d. Distance Bonded (getD r x o) (getD r y o) d) (c .1) (h .shortest x y (c .0) ly)
+        far g x y lx ly (inr c) =
+            distance-back Bonded back (getD r y o) (getD r x o) (around (length r) g)
+            (subst (λ d. Distance Bonded (getD r y o) (getD r x o) d) (c .1) (h .shortest y x (c .0) lx))
+
+  -- every place of r is read
+  pub reaches : (r s : List Vertex) (R : Reading o r s) (p : ℕ) → p < length r → (i : ℕ) × (i < length r) × (getD s i o ≡ getD r p o) × (i ≡ 0 → p ≡ R .start)
+  reaches r s R p l = go (R .reads) (decLe (R .start) p) (decLt (R .start) p)
+    where
+      lm : R .start < length r
+      lm = R .starts
+
+      onto : (a i : ℕ) → i < length r → a < length r + length r → getD s i o ≡ getD r (a % length r) o → Wrapped (length r) a p → getD s i o ≡ getD r p o
+      onto a i li la e w = e ∙ ap (λ n. getD r n o) (wrapped (length r) a (a % length r) p (wrap (length r) a la) w)
+
+      go : Onwards o r s (R .start) ⊎ Backwards o r s (R .start)
+          → Dec (R .start ≤ p) → Dec (R .start < p) → (i : ℕ) × (i < length r) × (getD s i o ≡ getD r p o) × (i ≡ 0 → p ≡ R .start)
+      go (inl f) (yes c) _ =
+          let li : p - R .start < length r = omega arith in
+          (p - R .start, li, onto (R .start + (p - R .start)) (p - R .start) li (omega (arith, lm)) (f (p - R .start) li) (inl (omega arith)), λ z. omega arith)
+      go (inl f) (no c) _ =
+          let li : p + length r - R .start < length r = omega (arith, lm) in
+          (p + length r - R .start, li, onto (R .start + (p + length r - R .start)) (p + length r - R .start) li (omega (arith, lm)) (f (p + length r - R .start) li) (inr (omega (arith, lm))), λ z. omega (arith, lm))
+      go (inr f) _ (yes c) =
+          let li : R .start + length r - p < length r = omega arith in
+          (R .start + length r - p, li, onto (R .start + (length r - (R .start + length r - p))) (R .start + length r - p) li (omega (arith, lm)) (f (R .start + length r - p) li) (inl (omega (arith, lm))), λ z. omega (arith, lm))
+      go (inr f) _ (no c) =
+          let li : R .start - p < length r = omega (arith, lm) in
+          (R .start - p, li, onto (R .start + (length r - (R .start - p))) (R .start - p) li (omega (arith, lm)) (f (R .start - p) li) (inr (omega (arith, lm))), λ z. omega arith)

@@ -1,0 +1,7 @@
+-- The paper's definitions, over any kind of vertex. Read Graph, Writing and Listing; the rest computes.
+pub mod Lists
+pub mod Graph
+pub mod Writing
+pub mod Listing
+pub mod Levels
+pub mod Search

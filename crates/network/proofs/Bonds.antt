@@ -1,0 +1,80 @@
+-- Bonds of an accepted network are answered, join two atoms, and are the bonds of a finite graph.
+use mathlib.Core.Path.{_≡_, refl, sym, _∙_, ap, subst}
+use mathlib.Core.Logic.{_↔_}
+use mathlib.Core.Bool.{Bool, not}
+use mathlib.Core.List.{List}
+use Prim.Native.Nat.{ℕ, suc, _+_, _-_, _*_, _≤_, _<_, min}
+use native.Mathlib.Omega.{arith}
+use native.Mathlib.Decide.{ℕ-discrete}
+use lib.Dec.{T, eqb, eqb→eq, eqb-refl, T-not, not-T}
+use lib.ListN.{length, getD, take, drop, length-take, length-drop}
+use lib.Seq.{getD-take, getD-drop}
+use Rattle.graph.specs.Lists.{_∈_, Ascending}
+use Rattle.graph.proofs.Lists.{keep-of, keep-has, keep-ascends, place-of, at-place}
+use Rattle.graph.proofs.Finite.{BondedBy, FiniteNetwork}
+use Rattle.network.specs.Maxima.{atomsMost, places, free}
+use Rattle.network.specs.Network.{word, Holds, Bonded, IsNetwork, neighbours}
+
+module _ (t : List ℕ) (x : ℕ) where
+  row-length : length (take places (drop (x * places) t)) ≡ min places (length t - x * places)
+  row-length = length-take places (drop (x * places) t) ∙ ap (min places) (length-drop (x * places) t)
+
+  row-at : (p : ℕ) → p < places → getD (take places (drop (x * places) t)) p 0 ≡ word t x p
+  row-at p l = getD-take places (drop (x * places) t) p 0 l ∙ getD-drop (x * places) t p 0
+
+  pub bonded-neighbour : (y : ℕ) → Bonded t x y → y ∈ neighbours t x
+  bonded-neighbour y b =
+      keep-has (λ w. not (eqb w free))
+      (subst (λ w. w ∈ take places (drop (x * places) t)) (row-at (b .place) (b .in-row) ∙ b .stands)
+      (at-place 0 (take places (drop (x * places) t)) (b .place) (omega (arith, row-length, b .in-row, b .in-table))))
+      (not-T (eqb y free) (λ e. b .atom (eqb→eq y free e)))
+
+  pub neighbour-bonded : (y : ℕ) → y ∈ neighbours t x → Bonded t x y
+  neighbour-bonded y m =
+      let k = keep-of (λ w. not (eqb w free)) (take places (drop (x * places) t)) m in
+      let q = place-of 0 (k .0) in
+      let l : q .0 < places = omega (arith, q .1, row-length) in
+      record {
+        place = q .0;
+        in-row = l;
+        in-table = omega (arith, q .1, row-length);
+        stands = sym (row-at (q .0) l) ∙ q .2;
+        atom = λ e. T-not (eqb y free) (k .1) (subst (λ w. T (eqb y w)) e (eqb-refl y));
+      }
+
+-- the bridge: table bonds are the bonds of the graph of lists
+pub bonded-by : (t : List ℕ) (x y : ℕ) → BondedBy (neighbours t) x y ↔ Bonded t x y
+bonded-by t x y = (neighbour-bonded t x y, bonded-neighbour t x y)
+
+module _ (n : ℕ) (t : List ℕ) (N : IsNetwork n t) where
+  holds : (x y : ℕ) (b : Bonded t x y) → Holds t x (b .place)
+  holds x y b e = b .atom (sym (b .stands) ∙ e)
+
+  pub bonded-from : (x y : ℕ) → Bonded t x y → x < n
+  bonded-from x y b = omega (arith, b .in-table, N .whole)
+
+  pub bonded-to : (x y : ℕ) → Bonded t x y → y < n
+  bonded-to x y b = subst (λ w. w < n) (b .stands) (N .below x (b .place) (bonded-from x y b) (b .in-row) (holds x y b))
+
+  -- a bond is answered
+  pub bonded-back : (x y : ℕ) → Bonded t x y → Bonded t y x
+  bonded-back x y b = subst (λ w. Bonded t w x) (b .stands) (N .answered x (b .place) (bonded-from x y b) (b .in-row) (holds x y b))
+
+  -- no atom is bonded to itself
+  pub bonded-other : (x : ℕ) → Bonded t x x → ⊥
+  bonded-other x b = N .other x (b .place) (bonded-from x x b) (b .in-row) (holds x x b) (b .stands)
+
+  pub finite : FiniteNetwork n (neighbours t)
+  finite = record {
+    inside = λ x y m. bonded-to x y (neighbour-bonded t x y m);
+    back = λ x y m. bonded-neighbour t y x (bonded-back x y (neighbour-bonded t x y m));
+    ascends = λ x. keep-ascends _<_ 0 (λ w. not (eqb w free)) (take places (drop (x * places) t)) (up x);
+  }
+    where
+      up : (x i j : ℕ) → i < j → j < length (take places (drop (x * places) t)) → T (not (eqb (getD (take places (drop (x * places) t)) i 0) free))
+          → T (not (eqb (getD (take places (drop (x * places) t)) j 0) free)) → getD (take places (drop (x * places) t)) i 0 < getD (take places (drop (x * places) t)) j 0
+      up x i j l k ti tj =
+          let kj : j < places = omega (arith, row-length t x) in
+          let h : Holds t x j = λ e. T-not (eqb (getD (take places (drop (x * places) t)) j 0) free) tj
+          (subst (λ w. T (eqb (getD (take places (drop (x * places) t)) j 0) w)) (row-at t x j kj ∙ e) (eqb-refl (getD (take places (drop (x * places) t)) j 0))) in
+          omega (arith, row-at t x i (omega arith), row-at t x j kj, N .ascends x i j (omega (arith, row-length t x, N .whole)) l kj h)

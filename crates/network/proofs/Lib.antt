@@ -1,0 +1,8 @@
+-- Laws of bond tables and verdicts.
+pub mod PlaceFaults
+pub mod Scans
+pub mod Verdicts
+pub mod Networks
+pub mod Bonds
+pub mod FirstFaults
+pub mod Examples

@@ -1,0 +1,132 @@
+-- The verdict from the two passes.
+use mathlib.Core.Path.{_≡_, refl, sym, _∙_, ap}
+use mathlib.Core.Bool.{Bool, true, false, cond}
+use mathlib.Core.List.{List}
+use Prim.Native.Nat.{ℕ, zero, suc, _+_, _-_, _*_, _/_, _%_, _≤_, _<_}
+use native.Mathlib.Omega.{arith}
+use native.Mathlib.Decide.{decLe}
+use lib.ListN.{length, getD}
+use borrow.Author.Tests.{eq-eqb, ne-eqb, le-leb, lt-leb}
+use Rattle.network.specs.declared.Answer.{Answer}
+use Rattle.network.specs.Maxima.{atomsMost, places, free}
+use Rattle.network.specs.Network.{Counted}
+use Rattle.network.specs.Verdict.{placeFault, bondFault, firstFault, orElse, accepted, refusal, verdict, faults, notAtoms, notLong, atomsOf, WordsBelow}
+use Rattle.network.proofs.PlaceFaults.{fault-7}
+
+-- one word, then the rest
+or-kept : (c i : ℕ) (a b : Answer) → (orElse c i b .code ≡ 0 → ⊥) → ((b .code ≡ 0 → ⊥) → a ≡ b) → orElse c i a ≡ orElse c i b
+unfolding orElse
+or-kept zero i a b z f = f z
+or-kept (suc c) i a b z f = refl
+
+or-clean : (c i : ℕ) (a : Answer) → orElse c i a .code ≡ 0 → (c ≡ 0) × (a .code ≡ 0)
+unfolding orElse
+or-clean zero i a z = (refl, z)
+or-clean (suc c) i a z = absurd (omega arith)
+
+-- a pass that finds a fault decides, and one that finds none leaves it to what comes later
+pub kept : (fault : ℕ → ℕ) (k i : ℕ) (later : Answer) → (firstFault fault k i accepted .code ≡ 0 → ⊥) → firstFault fault k i later ≡ firstFault fault k i accepted
+unfolding firstFault
+kept fault zero i later z = absurd (z refl)
+kept fault (suc k) i later z = or-kept (fault i) i _ _ z (kept fault k (i + 1) later)
+
+pub clean : (fault : ℕ → ℕ) (k i : ℕ) (later : Answer) → firstFault fault k i accepted .code ≡ 0 → firstFault fault k i later ≡ later
+unfolding firstFault orElse
+clean fault zero i later z = refl
+clean fault (suc k) i later z =
+    let both = or-clean (fault i) i _ z in
+    rw (both .0) (clean fault k (i + 1) later (both .1))
+
+pub clean-at : (fault : ℕ → ℕ) (k i : ℕ) → firstFault fault k i accepted .code ≡ 0 → (j : ℕ) → i ≤ j → j < i + k → fault j ≡ 0
+unfolding firstFault
+clean-at fault zero i z j l h = absurd (omega arith)
+clean-at fault (suc k) i z j l h =
+    let both = or-clean (fault i) i _ z in
+    elim (decLe (i + 1) j) [
+      | yes m ↦ clean-at fault k (i + 1) (both .1) j m (omega arith)
+      | no m ↦ (let e : j ≡ i = omega arith in rw e (both .0))
+    ]
+
+pub below : (n : ℕ) (t : List ℕ) (i : ℕ) → placeFault n t i ≡ 0 → (getD t i 0 ≡ free → ⊥) → getD t i 0 < n
+below n t i z h = elim (decLe n (getD t i 0)) [ yes m ↦ absurd (omega (arith, fault-7 n t i h m)) | no m ↦ omega arith ]
+
+pub words-below : (n : ℕ) (t : List ℕ) (a : Answer) → a ≡ firstFault (placeFault n t) (length t) 0 accepted → a .code ≡ 0 → WordsBelow n t
+unfolding WordsBelow
+words-below n t a first z i l h = below n t i (clean-at (placeFault n t) (length t) 0 (ap (λ (x : Answer). x .code) (sym first) ∙ z) i (omega arith) (omega arith)) h
+
+-- the faults of a table: those of places decide, and where there is none those of bonds
+module _ (n : ℕ) (t : List ℕ) (a : Answer) (first : a ≡ firstFault (placeFault n t) (length t) 0 accepted) where
+  pub says-place : (a .code ≡ 0 → ⊥) → a ≡ faults n t accepted
+  unfolding faults
+  says-place z = first ∙ sym (kept (placeFault n t) (length t) 0 _ (λ e. z (ap (λ (x : Answer). x .code) first ∙ e)))
+
+  pub says-bond : (b : Answer) → a .code ≡ 0 → b ≡ firstFault (bondFault t) (length t) 0 accepted → b ≡ faults n t accepted
+  unfolding faults
+  says-bond b z h = h ∙ sym (clean (placeFault n t) (length t) 0 _ (ap (λ (x : Answer). x .code) (sym first) ∙ z))
+
+-- the checks of numbers, for any call
+pub not-atoms-low : (n : ℕ) → n < 1 → notAtoms n ≡ true
+not-atoms-low n l = simp (lt-leb _ _ l)
+
+pub not-atoms-high : (n : ℕ) → atomsMost < n → notAtoms n ≡ true
+not-atoms-high n l = let one : 1 ≤ n = omega arith in simp (le-leb _ _ one, lt-leb _ _ l)
+
+pub atoms : (n : ℕ) → 1 ≤ n → n ≤ atomsMost → notAtoms n ≡ false
+atoms n l m = simp (le-leb _ _ l, le-leb _ _ m)
+
+pub atoms-low : (n m : ℕ) → n < 1 → m ≡ 0 → m ≡ atomsOf n
+unfolding atomsOf
+atoms-low n m l e = rw (not-atoms-low n l) e
+
+pub atoms-high : (n m : ℕ) → atomsMost < n → m ≡ 0 → m ≡ atomsOf n
+unfolding atomsOf
+atoms-high n m l e = rw (not-atoms-high n l) e
+
+pub atoms-right : (n : ℕ) → 1 ≤ n → n ≤ atomsMost → n ≡ atomsOf n
+unfolding atomsOf
+atoms-right n l m = rw (atoms n l m)
+
+pub no-atoms : (n m : ℕ) → m ≡ atomsOf n → m ≡ 0 → notAtoms n ≡ true
+unfolding atomsOf
+no-atoms n m e z = go (notAtoms n) refl (sym e ∙ z)
+  where
+    go : (b : Bool) → notAtoms n ≡ b → cond b 0 n ≡ 0 → notAtoms n ≡ true
+    go true h k = h
+    go false h k = not-atoms-low n (omega arith)
+
+pub some-atoms : (n m : ℕ) → m ≡ atomsOf n → (m ≡ 0 → ⊥) → Counted n
+some-atoms n m e z = go (decLe 1 n) (decLe n atomsMost)
+  where
+    go : Dec (1 ≤ n) → Dec (n ≤ atomsMost) → Counted n
+    go (yes l) (yes k) = record { some = l; most = k }
+    go (yes l) (no k) = absurd (z (e ∙ sym (atoms-high n 0 (omega arith) refl)))
+    go (no l) _ = absurd (z (e ∙ sym (atoms-low n 0 (omega arith) refl)))
+
+pub not-long : (t : List ℕ) (m : ℕ) → (length t ≡ m → ⊥) → notLong t m ≡ true
+not-long t m h = simp (ne-eqb _ _ h)
+
+pub long : (t : List ℕ) (m : ℕ) → length t ≡ m → notLong t m ≡ false
+long t m h = simp (eq-eqb _ _ h)
+
+-- the verdict at each way through its checks; m is what the constructor of networks gives for n
+module _ (n : ℕ) (t : List ℕ) (a : Answer) where
+  pub verdict-1 : notAtoms n ≡ true → verdict n t ≡ refusal 1
+  unfolding verdict
+  verdict-1 e = rw e
+
+  pub says-1 : (m : ℕ) → m ≡ atomsOf n → m ≡ 0 → a ≡ refusal 1 → a ≡ verdict n t
+  says-1 m e z h = h ∙ sym (verdict-1 (no-atoms n m e z))
+
+  pub verdict-4 : Counted n → (length t ≡ places * n → ⊥) → verdict n t ≡ refusal 4
+  unfolding verdict
+  verdict-4 c h = rw (atoms n (c .some) (c .most), not-long t (places * n) h)
+
+  pub says-4 : (m : ℕ) → m ≡ atomsOf n → (m ≡ 0 → ⊥) → a ≡ refusal 4 → (length t ≡ places * n → ⊥) → a ≡ verdict n t
+  says-4 m e z f h = f ∙ sym (verdict-4 (some-atoms n m e z) h)
+
+  pub verdict-faults : Counted n → length t ≡ places * n → verdict n t ≡ faults n t accepted
+  unfolding verdict
+  verdict-faults c h = rw (atoms n (c .some) (c .most), long t (places * n) h)
+
+  pub says-faults : (m : ℕ) → m ≡ atomsOf n → (m ≡ 0 → ⊥) → a ≡ faults n t accepted → length t ≡ places * n → a ≡ verdict n t
+  says-faults m e z f h = f ∙ sym (verdict-faults (some-atoms n m e z) h)

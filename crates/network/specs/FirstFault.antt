@@ -1,0 +1,70 @@
+-- What refusals 7 to 11 mean at a place of a table, and which fault is the first (document 01, "Numbered refusals").
+--
+--   Outside, AfterFree, Own, NotAbove    7, 8, 9, 10 at place p of row x
+--   Unanswered                           11 there
+--   AtPlace n t x p c                    one of 7 to 10 with its number c
+--   Earlier x p y q                      place p of row x is read before place q of row y: rows ascending, then places
+--   Judged n t a                         all that a verdict can be: 1, 4, the first fault, or accepted, each with when it is given
+--   NamesFirst n t a                     the answer a is the first fault: at its place it has the smallest number, no earlier
+--                                        place has one of 7 to 10; 11 only where no place has one, and none earlier is unanswered
+use mathlib.Core.Path.{_≡_}
+use mathlib.Core.Logic.{_⊎_}
+use mathlib.Core.List.{List}
+use Prim.Native.Nat.{ℕ, suc, _+_, _*_, _≤_, _<_}
+use lib.ListN.{length}
+use Rattle.network.specs.declared.Answer.{Answer}
+use Rattle.network.specs.Maxima.{places, free}
+use Rattle.network.specs.Network.{word, Holds, Bonded, Counted, IsNetwork}
+use Rattle.network.specs.Verdict.{accepted, refusal}
+
+module _ (n : ℕ) (t : List ℕ) (x p : ℕ) where
+  -- the word is neither free nor below n
+  abbrev pub Outside : Type 0
+  Outside = Holds t x p × (n ≤ word t x p)
+
+  -- a neighbour after a free place
+  abbrev pub AfterFree : Type 0
+  AfterFree = Holds t x p × ((q : ℕ) × (q < p) × (word t x q ≡ free))
+
+  -- the atom itself
+  abbrev pub Own : Type 0
+  Own = Holds t x p × (word t x p ≡ x)
+
+  -- a neighbour not above the one before it
+  abbrev pub NotAbove : Type 0
+  NotAbove = Holds t x p × ((q : ℕ) × (suc q ≡ p) × Holds t x q × (word t x p ≤ word t x q))
+
+  -- a bond unanswered in the other row
+  abbrev pub Unanswered : Type 0
+  Unanswered = Holds t x p × (Bonded t (word t x p) x → ⊥)
+
+  abbrev pub AtPlace : ℕ → Type 0
+  AtPlace c = ((c ≡ 7) × Outside) ⊎ ((c ≡ 8) × AfterFree) ⊎ ((c ≡ 9) × Own) ⊎ ((c ≡ 10) × NotAbove)
+
+abbrev pub Earlier : ℕ → ℕ → ℕ → ℕ → Type 0
+Earlier x p y q = x * places + p < y * places + q
+
+pub record NamesPlace (n : ℕ) (t : List ℕ) (a : Answer) : Type 0 where
+  pub row : a .row < n
+  pub place : a .place < places
+  pub there : AtPlace n t (a .row) (a .place) (a .code)
+  pub smallest : (c : ℕ) → AtPlace n t (a .row) (a .place) c → a .code ≤ c
+  pub first : (x p c : ℕ) → p < places → Earlier x p (a .row) (a .place) → AtPlace n t x p c → ⊥
+
+pub record NamesBond (n : ℕ) (t : List ℕ) (a : Answer) : Type 0 where
+  pub row : a .row < n
+  pub place : a .place < places
+  pub eleven : a .code ≡ 11
+  pub there : Unanswered n t (a .row) (a .place)
+  pub clean : (x p c : ℕ) → x < n → p < places → AtPlace n t x p c → ⊥
+  pub first : (x p : ℕ) → p < places → Earlier x p (a .row) (a .place) → Unanswered n t x p → ⊥
+
+abbrev pub NamesFirst : ℕ → List ℕ → Answer → Type 0
+NamesFirst n t a = NamesPlace n t a ⊎ NamesBond n t a
+
+abbrev pub Judged : ℕ → List ℕ → Answer → Type 0
+Judged n t a =
+    ((Counted n → ⊥) × (a ≡ refusal 1))
+    ⊎ (Counted n × (length t ≡ places * n → ⊥) × (a ≡ refusal 4))
+    ⊎ (Counted n × (length t ≡ places * n) × NamesFirst n t a)
+    ⊎ (IsNetwork n t × (a ≡ accepted))

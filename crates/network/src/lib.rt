@@ -1,0 +1,93 @@
+// The network type with its maxima, the answer that every call gives, and the validator of bond tables.
+//
+// A bond table has a row of 8 places for each atom; a place holds a neighbour or is free.
+mod faults;
+
+ghost use mathlib.Core.Path.{_≡_};
+ghost use Rattle.network.specs.Maxima.{atomsMost, places, free};
+ghost use Rattle.network.specs.Verdict.{accepted, refusal, atomsOf, verdict};
+
+// A network of so many atoms.
+pub struct Network {
+    pub atoms: usize,
+}
+
+impl Network {
+    // The most atoms of a network.
+    pub const ATOMS: usize = 250;
+
+    // The places in an atom's row, and so the most neighbours of an atom.
+    pub const PLACES: usize = 8;
+
+    // The word of a free place.
+    pub const FREE: u16 = 65535;
+
+    // A network of n atoms, or of none where n is no number of atoms.
+    pub fn of(n: usize) -> Network
+        ensures { λ r. ⌜ r .atoms ≡ atomsOf n ⌝ }
+    {
+        if n < 1 {
+            return Network::none();
+        }
+        if Network::ATOMS < n {
+            return Network::none();
+        }
+        Network { atoms: n }
+    }
+
+    pub fn none() -> Network
+        ensures { λ r. ⌜ r .atoms ≡ 0 ⌝ }
+    {
+        Network { atoms: 0 }
+    }
+}
+
+// The number of a refusal, 0 where a call is accepted, and the row and place that it names.
+#[repr(C)]
+pub struct Answer {
+    pub code: u8,
+    pub row: usize,
+    pub place: usize,
+}
+
+impl Answer {
+    pub fn accepted() -> Answer
+        ensures { λ r. ⌜ r ≡ accepted ⌝ }
+    {
+        Answer {
+            code: 0,
+            row: 0,
+            place: 0,
+        }
+    }
+
+    // A refusal that names no place.
+    pub fn refused(code: u8) -> Answer
+        ensures { λ r. ⌜ r ≡ refusal code ⌝ }
+    {
+        Answer {
+            code: code,
+            row: 0,
+            place: 0,
+        }
+    }
+}
+
+// The first fault of a bond table of n rows: refusals 1, 4, and 7 to 11.
+pub fn validate(n: usize, table: &[u16]) -> Answer
+    ensures { λ r. ⌜ r ≡ verdict n (now (table .entry)) ⌝ }
+{
+    let network = Network::of(n);
+    if network.atoms == 0 {
+        return Answer::refused(1);
+    }
+    if table.len() != Network::PLACES * n {
+        return Answer::refused(4);
+    }
+    faults::faults_in(n, table)
+}
+
+// The constants of the type are the numbers of the specifications.
+fn maxima_agree()
+    ensures { λ _. do ⌜ ((← ⟦Network::ATOMS⟧ .entry) ≡ atomsMost) × ((← ⟦Network::PLACES⟧ .entry) ≡ places) × ((← ⟦Network::FREE⟧ .entry) ≡ free) ⌝ }
+{}
