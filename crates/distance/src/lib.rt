@@ -1,0 +1,1 @@
+// The table of distances between all atoms of a network.
