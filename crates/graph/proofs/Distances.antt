@@ -100,3 +100,12 @@ module _ {Vertex : Type 0} (Bonded : Vertex → Vertex → Type 0) where
     distance-back x y d h =
         let m = nearest-of x y d h in
         distance-of y x d (record { walk = walk-back d x y (m .walk); least = λ n w. m .least n (walk-back n y x w) })
+
+-- walks that grow, and end, by a bond
+module _ {Vertex : Type 0} (Bonded : Vertex → Vertex → Type 0) where
+  pub walk-longer : (n : ℕ) (x y z : Vertex) → Walk Bonded n x y → Bonded y z → Walk Bonded (suc n) x z
+  walk-longer n x y z w b = subst (λ k. Walk Bonded k x z) (add-one n) (walk-join Bonded n 1 x y z w (z, b, refl))
+
+  pub walk-last : (n : ℕ) (x z : Vertex) → Walk Bonded (suc n) x z → (y : Vertex) × Walk Bonded n x y × Bonded y z
+  walk-last zero x z w = (x, refl, subst (λ y. Bonded x y) (w .2) (w .1))
+  walk-last (suc n) x z w = let r = walk-last n (w .0) z (w .2) in (r .0, (w .0, w .1, r .1), r .2)
