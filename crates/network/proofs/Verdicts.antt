@@ -4,7 +4,7 @@ use mathlib.Core.Bool.{Bool, true, false, cond}
 use mathlib.Core.List.{List}
 use Prim.Native.Nat.{ℕ, zero, suc, _+_, _-_, _*_, _/_, _%_, _≤_, _<_}
 use native.Mathlib.Omega.{arith}
-use native.Mathlib.Decide.{decLe}
+use native.Mathlib.Decide.{decLe, ℕ-discrete}
 use lib.ListN.{length, getD}
 use borrow.Author.Tests.{eq-eqb, ne-eqb, le-leb, lt-leb}
 use Rattle.network.specs.declared.Answer.{Answer}
@@ -130,3 +130,14 @@ module _ (n : ℕ) (t : List ℕ) (a : Answer) where
 
   pub says-faults : (m : ℕ) → m ≡ atomsOf n → (m ≡ 0 → ⊥) → a ≡ faults n t accepted → length t ≡ places * n → a ≡ verdict n t
   says-faults m e z f h = f ∙ sym (verdict-faults (some-atoms n m e z) h)
+
+-- faults decide, whatever comes later
+pub faults-kept : (n : ℕ) (t : List ℕ) (later : Answer) → (faults n t accepted .code ≡ 0 → ⊥) → faults n t later ≡ faults n t accepted
+unfolding faults
+faults-kept n t later z =
+    elim (ℕ-discrete (firstFault (placeFault n t) (length t) 0 accepted .code) 0) [
+      | yes e ↦ clean (placeFault n t) (length t) 0 _ e
+          ∙ kept (bondFault t) (length t) 0 later (λ y. z (ap (λ (x : Answer). x .code) (clean (placeFault n t) (length t) 0 _ e) ∙ y))
+          ∙ sym (clean (placeFault n t) (length t) 0 _ e)
+      | no e ↦ kept (placeFault n t) (length t) 0 _ e ∙ sym (kept (placeFault n t) (length t) 0 _ e)
+    ]
