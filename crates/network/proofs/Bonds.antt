@@ -1,14 +1,14 @@
--- Bonds of an accepted network are answered, join two atoms, and are the bonds of a finite graph.
+-- Bonds of an accepted network are answered, join two atoms, are the bonds of a finite graph, and determine the table.
 use mathlib.Core.Path.{_≡_, refl, sym, _∙_, ap, subst}
 use mathlib.Core.Logic.{_↔_}
 use mathlib.Core.Bool.{Bool, not}
 use mathlib.Core.List.{List}
-use Prim.Native.Nat.{ℕ, suc, _+_, _-_, _*_, _≤_, _<_, min}
+use Prim.Native.Nat.{ℕ, zero, suc, _+_, _-_, _*_, _/_, _%_, _≤_, _<_, min}
 use native.Mathlib.Omega.{arith}
-use native.Mathlib.Decide.{ℕ-discrete}
+use native.Mathlib.Decide.{decLt, ℕ-discrete}
 use lib.Dec.{T, eqb, eqb→eq, eqb-refl, T-not, not-T}
 use lib.ListN.{length, getD, take, drop, length-take, length-drop}
-use lib.Seq.{getD-take, getD-drop}
+use lib.Seq.{getD-take, getD-drop, ext-getD}
 use Rattle.graph.specs.Lists.{_∈_, Ascending}
 use Rattle.graph.proofs.Lists.{keep-of, keep-has, keep-ascends, place-of, at-place}
 use Rattle.graph.proofs.Finite.{BondedBy, FiniteNetwork}
@@ -78,3 +78,47 @@ module _ (n : ℕ) (t : List ℕ) (N : IsNetwork n t) where
           let h : Holds t x j = λ e. T-not (eqb (getD (take places (drop (x * places) t)) j 0) free) tj
           (subst (λ w. T (eqb (getD (take places (drop (x * places) t)) j 0) w)) (row-at t x j kj ∙ e) (eqb-refl (getD (take places (drop (x * places) t)) j 0))) in
           omega (arith, row-at t x i (omega arith), row-at t x j kj, N .ascends x i j (omega (arith, row-length t x, N .whole)) l kj h)
+
+-- a network's table is determined by its bonds, since its rows ascend
+module _ (n : ℕ) where
+  -- where the words before are the same, a neighbour at place p has one at p in the other table, not above it
+  not-above : (t u : List ℕ) → IsNetwork n t → IsNetwork n u → (x p : ℕ) → x < n → p < places → ((y : ℕ) → Bonded t x y → Bonded u x y)
+      → ((q : ℕ) → q < p → word t x q ≡ word u x q) → Holds t x p → Holds u x p × (word u x p ≤ word t x p)
+  not-above t u N U x p l m there before h = go (decLt (b .place) p) (decLt p (b .place))
+    where
+      b : Bonded u x (word t x p)
+      b = there (word t x p) (record { place = p; in-row = m; in-table = omega (arith, N .whole); stands = refl; atom = h })
+
+      held : Holds u x (b .place)
+      held e = h (sym (b .stands) ∙ e)
+
+      go : Dec (b .place < p) → Dec (p < b .place) → Holds u x p × (word u x p ≤ word t x p)
+      go (yes k) _ = absurd (omega (arith, before (b .place) k, b .stands, N .ascends x (b .place) p l k m h))
+      go (no k) (yes s) = (U .first x p (b .place) l s (b .in-row) held, omega (arith, b .stands, U .ascends x p (b .place) l s (b .in-row) held))
+      go (no k) (no s) =
+          let e : b .place ≡ p = omega arith in
+          (subst (λ (q : ℕ). Holds u x q) e held, omega (arith, b .stands, ap (word u x) e))
+
+  module _ (t u : List ℕ) (N : IsNetwork n t) (U : IsNetwork n u) (same : (x y : ℕ) → Bonded t x y ↔ Bonded u x y) where
+    same-words : (x k : ℕ) → x < n → k ≤ places → (p : ℕ) → p < k → word t x p ≡ word u x p
+    same-words x zero l m p h = absurd (omega arith)
+    same-words x (suc k) l m p h = pick (same-words x k l (omega arith))
+      where
+        pick : ((q : ℕ) → q < k → word t x q ≡ word u x q) → word t x p ≡ word u x p
+        pick before = elim (ℕ-discrete p k) [ yes e ↦ rw e (here (ℕ-discrete (word t x k) free) (ℕ-discrete (word u x k) free)) | no e ↦ before p (omega arith) ]
+          where
+            here : Dec (word t x k ≡ free) → Dec (word u x k ≡ free) → word t x k ≡ word u x k
+            here (yes e) (yes f) = e ∙ sym f
+            here (yes e) (no f) = absurd (not-above u t U N x k l (omega arith) (λ y. same x y .1) (λ q r. sym (before q r)) f .0 e)
+            here (no e) (yes f) = absurd (not-above t u N U x k l (omega arith) (λ y. same x y .0) before e .0 f)
+            here (no e) (no f) =
+                let there : word u x k ≤ word t x k = not-above t u N U x k l (omega arith) (λ y. same x y .0) before e .1 in
+                let back : word t x k ≤ word u x k = not-above u t U N x k l (omega arith) (λ y. same x y .1) (λ q r. sym (before q r)) f .1 in
+                omega arith
+
+    pub network-unique : t ≡ u
+    network-unique =
+        ext-getD 0 t u (N .whole ∙ sym (U .whole))
+        (λ i l.
+        let e : i ≡ i / places * places + i % places = omega arith in
+        rw e (same-words (i / places) places (omega (arith, N .whole)) (omega arith) (i % places) (omega arith)))

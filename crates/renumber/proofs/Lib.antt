@@ -6,3 +6,4 @@ pub mod PutRows
 pub mod Naming
 pub mod NewRows
 pub mod Outcomes
+pub mod OneOutcome
