@@ -1,0 +1,7 @@
+-- Laws of the search.
+mod Laws
+mod Ahead
+mod Closed
+mod Members
+mod Order
+mod Harmless
