@@ -1,7 +1,8 @@
 -- Laws of the search.
-mod Laws
-mod Ahead
-mod Closed
-mod Members
-mod Order
-mod Harmless
+pub mod Laws
+pub mod Ahead
+pub mod Closed
+pub mod Members
+pub mod Order
+pub mod Harmless
+pub mod Listed

@@ -28,7 +28,7 @@ all-elim f (suc n) e i lt =
     let b = and-eq-true-iff (allBelow n f) (f n) .0 e in
     ⊎-elim (λ q. rw q (b .1)) (λ l. all-elim f n (b .0) i l) (eq-or-lt-of-le (le-of-suc-le-suc lt))
 
-gather-intro : (f : ℕ → List (List ℕ)) (n j : ℕ) {r : List ℕ} → j < n → List·Memᴰ r (f j) → List·Memᴰ r (gatherBelow n f)
+pub gather-intro : (f : ℕ → List (List ℕ)) (n j : ℕ) {r : List ℕ} → j < n → List·Memᴰ r (f j) → List·Memᴰ r (gatherBelow n f)
 unfolding gatherBelow
 gather-intro f zero j lt m = absurd (not-suc-le-zero lt)
 gather-intro f (suc n) j {r} lt m =
