@@ -1,0 +1,4 @@
+-- Laws of writing on a page, and of the lines.
+pub mod Pages
+pub mod Texts
+pub mod Spelled

@@ -1,0 +1,95 @@
+-- The lines of a listing, as bytes (document 01, "The network file").
+--
+--   digits left n          the decimal digits of n, at most `left` of them
+--   number n               n in decimal
+--   valueOf v ds           the number that the digits ds spell after v
+--   sizesText n bonds      the line `atoms 7 bonds 9`
+--   ringText r             the line `ring 3 3 5 6`: length and atoms
+--   wordsText left ws      the lines of the list's words ws, where `left` atoms of the present ring are to come
+--   countsText k cs        the line `count 3 1` for each of the counts cs, from length k on, that is not 0
+--   totalText rings        the line `total 4`
+--   listingText ..         the whole listing
+--   refusalText a          the line `refused 22 0 0`
+use mathlib.Core.Bool.{cond}
+use mathlib.Core.List.{List, [], _∷_, _++_}
+use Prim.Native.Nat.{ℕ, zero, suc, _+_, _-_, _*_, _/_, _%_}
+use lib.Dec.{ltb, eqb}
+use lib.ListN.{length}
+use Rattle.graph.specs.Lists.{gather}
+use Rattle.network.specs.declared.Answer.{Answer}
+
+-- 48 is the digit 0
+unfoldable pub digits : ℕ → ℕ → List ℕ
+digits zero n = []
+digits (suc left) n = cond (ltb n 10) ((48 + n % 10) ∷ []) (digits left (n / 10) ++ ((48 + n % 10) ∷ []))
+
+abbrev pub digitsMost : ℕ
+digitsMost = 20
+
+abbrev pub number : ℕ → List ℕ
+number n = digits digitsMost n
+
+unfoldable pub valueOf : ℕ → List ℕ → ℕ
+valueOf v [] = v
+valueOf v (d ∷ ds) = valueOf (v * 10 + (d - 48)) ds
+
+abbrev pub space : List ℕ
+space = 32 ∷ []
+
+abbrev pub newline : List ℕ
+newline = 10 ∷ []
+
+-- `atoms `, ` bonds `, `ring `, `count `, `total `, `refused `
+abbrev pub atomsName : List ℕ
+atomsName = 97 ∷ 116 ∷ 111 ∷ 109 ∷ 115 ∷ 32 ∷ []
+
+abbrev pub bondsName : List ℕ
+bondsName = 32 ∷ 98 ∷ 111 ∷ 110 ∷ 100 ∷ 115 ∷ 32 ∷ []
+
+abbrev pub ringName : List ℕ
+ringName = 114 ∷ 105 ∷ 110 ∷ 103 ∷ 32 ∷ []
+
+abbrev pub countName : List ℕ
+countName = 99 ∷ 111 ∷ 117 ∷ 110 ∷ 116 ∷ 32 ∷ []
+
+abbrev pub totalName : List ℕ
+totalName = 116 ∷ 111 ∷ 116 ∷ 97 ∷ 108 ∷ 32 ∷ []
+
+abbrev pub refusedName : List ℕ
+refusedName = 114 ∷ 101 ∷ 102 ∷ 117 ∷ 115 ∷ 101 ∷ 100 ∷ 32 ∷ []
+
+unfoldable pub sizesText : ℕ → ℕ → List ℕ
+sizesText n bonds = (atomsName ++ number n) ++ ((bondsName ++ number bonds) ++ newline)
+
+unfoldable pub ringText : List ℕ → List ℕ
+ringText r = (ringName ++ number (length r)) ++ (gather (λ a. space ++ number a) r ++ newline)
+
+unfoldable pub leftAfter : ℕ → ℕ → ℕ
+leftAfter left w = cond (eqb left 0) w (left - 1)
+
+unfoldable pub endText : ℕ → List ℕ
+endText left = cond (eqb left 0) newline []
+
+unfoldable pub wordText : ℕ → ℕ → List ℕ
+wordText left w = (cond (eqb left 0) ringName space ++ number w) ++ endText (leftAfter left w)
+
+unfoldable pub wordsText : ℕ → List ℕ → List ℕ
+wordsText left [] = []
+wordsText left (w ∷ ws) = wordText left w ++ wordsText (leftAfter left w) ws
+
+unfoldable pub countText : ℕ → ℕ → List ℕ
+countText k rings = cond (eqb rings 0) [] ((countName ++ number k) ++ ((space ++ number rings) ++ newline))
+
+unfoldable pub countsText : ℕ → List ℕ → List ℕ
+countsText k [] = []
+countsText k (c ∷ cs) = countText k c ++ countsText (k + 1) cs
+
+unfoldable pub totalText : ℕ → List ℕ
+totalText rings = (totalName ++ number rings) ++ newline
+
+unfoldable pub listingText : ℕ → ℕ → List ℕ → List ℕ → ℕ → List ℕ
+listingText n bonds words counts total =
+    sizesText n bonds ++ (wordsText 0 words ++ (countsText 0 counts ++ totalText total))
+
+unfoldable pub refusalText : Answer → List ℕ
+refusalText a = (refusedName ++ number (a .code)) ++ ((space ++ number (a .row)) ++ ((space ++ number (a .place)) ++ newline))

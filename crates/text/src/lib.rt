@@ -1,0 +1,44 @@
+// The lines that the listing program prints, written into a lent byte buffer.
+mod lines;
+mod put;
+
+use network::Answer;
+use ring::Ring;
+ghost use mathlib.Core.Path.{_≡_};
+ghost use Rattle.text.specs.Page.{page, start, putAll};
+ghost use Rattle.text.specs.Lines.{listingText, refusalText};
+
+// Where the next byte goes, and whether every byte so far had room.
+pub struct Pen {
+    pub at: usize,
+    pub whole: bool,
+}
+
+// A listing: atoms and bonds, the words of the list, the counts by length, the total.
+pub fn listing(
+    atoms: usize,
+    bonds: usize,
+    list: &[u16],
+    counts: [u32; Ring::LENGTH + 1],
+    total: u32,
+    out: &mut [u8],
+) -> Pen
+    ensures { λ r. ⌜ page r (now (out .exit)) ≡ putAll (listingText atoms bonds (now (list .entry)) counts total) (page start (now (out .entry))) ⌝ }
+{
+    let begun = Pen { at: 0, whole: true };
+    let first = lines::sizes(out, begun, atoms, bonds);
+    let listed = lines::rings(out, first, list);
+    let counted = lines::counts(out, listed, counts);
+    lines::total(out, counted, total)
+}
+
+// A refusal: its number, row and place.
+pub fn refusal(answer: Answer, out: &mut [u8]) -> Pen
+    ensures { λ r. ⌜ page r (now (out .exit)) ≡ putAll (refusalText answer) (page start (now (out .entry))) ⌝ }
+{
+    let begun = Pen { at: 0, whole: true };
+    let code = put::named(out, begun, b"refused ", answer.code as usize);
+    let row = put::named(out, code, b" ", answer.row);
+    let place = put::named(out, row, b" ", answer.place);
+    put::byte(out, place, b'\n')
+}
