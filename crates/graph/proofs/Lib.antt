@@ -11,3 +11,5 @@ pub mod Pigeons
 pub mod Finite
 pub mod Listed
 pub mod Renamings
+pub mod Counts
+pub mod Carried

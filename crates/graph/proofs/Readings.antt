@@ -1,14 +1,15 @@
--- Each reading of a ring, from any place in either direction, is a ring of the same kind, and reads every place.
+-- Each reading of a ring, from any place in either direction, is a ring of the same kind, reads every place, and can be read back.
 use mathlib.Core.Path.{_≡_, refl, sym, _∙_, ap, subst}
 use mathlib.Core.Logic.{_≢_, _⊎_, inl, inr}
-use mathlib.Core.List.{List}
+use mathlib.Core.List.{List, map}
 use Prim.Native.Nat.{ℕ, zero, suc, _+_, _-_, _%_, _≤_, _<_, min}
 use native.Mathlib.Nat.{mod-eq-of-lt, mod-eq-sub-mod, mod-lt}
 use native.Mathlib.Decide.{decLe, decLt}
 use native.Mathlib.Omega.{arith}
-use lib.ListN.{length, getD}
+use lib.ListN.{length, getD, length-map}
 use Rattle.graph.specs.Graph.{around, Distance, Ring, ShortestPathRing}
 use Rattle.graph.specs.Writing.{Onwards, Backwards, Reading}
+use Rattle.graph.proofs.Lists.{getD-map}
 use Rattle.graph.proofs.Distances.{distance-back}
 use Rattle.graph.proofs.Rings.{ring-by-distances}
 
@@ -143,3 +144,72 @@ module _ {Vertex : Type 0} (o : Vertex) where
       go (inr f) _ (no c) =
           let li : R .start - p < length r = omega (arith, lm) in
           (R .start - p, li, onto (R .start + (length r - (R .start - p))) (R .start - p) li (omega (arith, lm)) (f (R .start - p) li) (inr (omega (arith, lm))), λ z. omega arith)
+
+-- a reading read back
+there-back : (k m n p x y : ℕ) → m < k → p < k → n < k → Wrapped k (k - m) n → Wrapped k (n + p) x → Wrapped k (m + x) y → y ≡ p
+there-back k m n p x y lm lp ln (inl a) (inl b) (inl c) = omega arith
+there-back k m n p x y lm lp ln (inl a) (inl b) (inr c) = omega arith
+there-back k m n p x y lm lp ln (inl a) (inr b) (inl c) = omega arith
+there-back k m n p x y lm lp ln (inl a) (inr b) (inr c) = omega arith
+there-back k m n p x y lm lp ln (inr a) (inl b) (inl c) = omega arith
+there-back k m n p x y lm lp ln (inr a) (inl b) (inr c) = omega arith
+there-back k m n p x y lm lp ln (inr a) (inr b) (inl c) = omega arith
+there-back k m n p x y lm lp ln (inr a) (inr b) (inr c) = omega arith
+
+round-back : (k m p x y : ℕ) → m < k → p < k → Wrapped k (m + (k - p)) x → Wrapped k (m + (k - x)) y → y < k → y ≡ p
+round-back k m p x y lm lp (inl b) (inl c) l = omega arith
+round-back k m p x y lm lp (inl b) (inr c) l = omega arith
+round-back k m p x y lm lp (inr b) (inl c) l = omega arith
+round-back k m p x y lm lp (inr b) (inr c) l = omega arith
+
+module _ {Vertex : Type 0} (o : Vertex) where
+  pub reading-back : (r s : List Vertex) → Reading o r s → Reading o s r
+  reading-back r s R = go (R .reads)
+    where
+      lm : R .start < length r
+      lm = R .starts
+
+      e : length s ≡ length r
+      e = R .alike
+
+      go : Onwards o r s (R .start) ⊎ Backwards o r s (R .start) → Reading o s r
+      go (inl f) = record { alike = sym e; start = (length r - R .start) % length r; starts = rw e ln; reads = inl (λ p l. rw e (sym (at p (omega (arith, e))))) }
+        where
+          n : ℕ
+          n = (length r - R .start) % length r
+
+          ln : (length r - R .start) % length r < length r
+          ln = mod-lt (length r - R .start) (omega (arith, lm))
+
+          at : (p : ℕ) → p < length r → getD s ((n + p) % length r) o ≡ getD r p o
+          at p l =
+              f ((n + p) % length r) (mod-lt (n + p) (omega arith))
+              ∙ ap (λ z. getD r z o)
+              (there-back (length r) (R .start) n p ((n + p) % length r) ((R .start + (n + p) % length r) % length r) lm l ln
+              (wrap (length r) (length r - R .start) (omega (arith, lm))) (wrap (length r) (n + p) (omega (arith, ln)))
+              (wrap (length r) (R .start + (n + p) % length r) (omega (arith, lm, mod-lt (n + p) {m = length r} (omega arith)))))
+      go (inr f) = record { alike = sym e; start = R .start; starts = omega (arith, e, lm); reads = inr (λ p l. rw e (sym (at p (omega (arith, e))))) }
+        where
+          at : (p : ℕ) → p < length r → getD s ((R .start + (length r - p)) % length r) o ≡ getD r p o
+          at p l =
+              let lx : (R .start + (length r - p)) % length r < length r = mod-lt (R .start + (length r - p)) (omega arith) in
+              f ((R .start + (length r - p)) % length r) lx
+              ∙ ap (λ z. getD r z o)
+              (round-back (length r) (R .start) p ((R .start + (length r - p)) % length r) ((R .start + (length r - (R .start + (length r - p)) % length r)) % length r) lm l
+              (wrap (length r) (R .start + (length r - p)) (omega (arith, lm)))
+              (wrap (length r) (R .start + (length r - (R .start + (length r - p)) % length r)) (omega (arith, lm)))
+              (mod-lt (R .start + (length r - (R .start + (length r - p)) % length r)) (omega arith)))
+
+-- a reading under new names
+pub reading-map : {A B : Type 0} (f : A → B) (a : A) (b : B) (r s : List A) → Reading a r s → Reading b (map f r) (map f s)
+reading-map f a b r s R = record { alike = length-map s f ∙ R .alike ∙ sym e; start = R .start; starts = omega (arith, e, R .starts); reads = go (R .reads) }
+  where
+    e : length (map f r) ≡ length r
+    e = length-map r f
+
+    at : (i q : ℕ) → i < length r → q < length r → getD s i a ≡ getD r q a → getD (map f s) i b ≡ getD (map f r) q b
+    at i q l k h = getD-map f s i a b (omega (arith, R .alike)) ∙ ap f h ∙ sym (getD-map f r q a b k)
+
+    go : Onwards a r s (R .start) ⊎ Backwards a r s (R .start) → Onwards b (map f r) (map f s) (R .start) ⊎ Backwards b (map f r) (map f s) (R .start)
+    go (inl h) = inl (λ i l. rw e (at i ((R .start + i) % length r) (omega (arith, e)) (mod-lt (R .start + i) (omega (arith, e))) (h i (omega (arith, e)))))
+    go (inr h) = inr (λ i l. rw e (at i ((R .start + (length r - i)) % length r) (omega (arith, e)) (mod-lt (R .start + (length r - i)) (omega (arith, e))) (h i (omega (arith, e)))))

@@ -3,5 +3,6 @@ pub mod Lists
 pub mod Graph
 pub mod Writing
 pub mod Listing
+pub mod Counts
 pub mod Levels
 pub mod Search

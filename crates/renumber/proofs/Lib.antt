@@ -7,3 +7,5 @@ pub mod Naming
 pub mod NewRows
 pub mod Outcomes
 pub mod OneOutcome
+pub mod Home
+pub mod Carried
