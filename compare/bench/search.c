@@ -1,0 +1,176 @@
+/* The search of the benchmark. By length, by first atom, by neighbours in row order, a path is lengthened by one atom
+ * at a time. An atom may follow if it is above the first; as far from the first as the ring says; as far from its
+ * antipodes, where they are placed; above the second, if its place is the last; and if some atom would still fit just
+ * past half the ring. A whole path is a ring if every pair fits. */
+#include "search.h"
+
+enum { ROW = 8, MOST_LENGTH = 24 };
+
+/* What does not change during one search. */
+typedef struct {
+    size_t n, k, allowance;
+    const uint16_t *table;
+    const uint8_t *dist;
+    uint16_t *list;
+    size_t list_len;
+} given;
+
+/* What has been found so far. */
+typedef struct {
+    size_t rings, words;
+    bool over;
+} found;
+
+/* The shorter way round. */
+static size_t around(size_t k, size_t d)
+{
+    return d < k - d ? d : k - d;
+}
+
+/* Whether y at place `at` is as far from the atom at place i as the ring says. */
+static bool pair_fits(const given *g, const uint16_t *path, size_t at, size_t y, size_t i)
+{
+    return g->dist[path[i] * g->n + y] == around(g->k, at - i);
+}
+
+/* Whether y at place `at` fits each of the first `many` atoms. */
+static bool fits_before(const given *g, const uint16_t *path, size_t many, size_t at, size_t y)
+{
+    for (size_t i = 0; i < many; i++)
+        if (!pair_fits(g, path, at, y, i))
+            return false;
+    return true;
+}
+
+/* Whether every pair of a whole path fits. */
+static bool every_pair(const given *g, const uint16_t *path)
+{
+    for (size_t j = 0; j < g->k; j++)
+        if (!fits_before(g, path, j, j, path[j]))
+            return false;
+    return true;
+}
+
+/* The first atom from `from` on that fits just past half the ring once a follows, or 0; `from` past that place. */
+static size_t look_ahead(const given *g, const uint16_t *path, size_t len, size_t a, size_t from)
+{
+    if (g->k / 2 < len)
+        return from;
+    size_t at = g->k / 2 + 1, way = around(g->k, at - len);
+    for (size_t y = from; y < g->n; y++)
+        if (g->dist[a * g->n + y] == way && fits_before(g, path, len, at, y))
+            return y;
+    return 0;
+}
+
+/* Whether a fits the atoms that stand across the ring from it, as far as they are placed. */
+static bool across(const given *g, const uint16_t *path, size_t len, size_t a)
+{
+    size_t half = g->k / 2;
+    if (len <= half)
+        return true;
+    if (!pair_fits(g, path, len, a, len - half))
+        return false;
+    return half + half == g->k || pair_fits(g, path, len, a, len - half - 1);
+}
+
+/* Whether a may follow: 0 if not, or where the next look ahead starts. */
+static size_t may_follow(const given *g, const uint16_t *path, size_t len, size_t a, size_t from)
+{
+    if (a <= path[0] || !pair_fits(g, path, len, a, 0) || !across(g, path, len, a))
+        return 0;
+    if (len + 1 == g->k && a <= path[1])
+        return 0;
+    return look_ahead(g, path, len, a, from);
+}
+
+/* Notes a ring: counted, and written where it fits. */
+static found note(const given *g, const uint16_t *path, found f)
+{
+    if (f.rings == g->allowance) {
+        f.over = true;
+        return f;
+    }
+    if (f.words + g->k < g->list_len) {
+        uint16_t *to = g->list + f.words;
+        to[0] = (uint16_t)g->k;
+        for (size_t i = 0; i < g->k; i++)
+            to[1 + i] = path[i];
+    }
+    f.rings++;
+    f.words += g->k + 1;
+    return f;
+}
+
+/* Lengthens the path, which lacks `left` atoms, by one atom after another until it is whole. */
+static found grow(const given *g, uint16_t *path, size_t left, size_t from, found f)
+{
+    if (f.over)
+        return f;
+    if (left == 0)
+        return path[1] < path[g->k - 1] && every_pair(g, path) ? note(g, path, f) : f;
+    size_t len = g->k - left;
+    const uint16_t *row = g->table + path[len - 1] * ROW;
+    for (size_t i = 0; i < ROW && row[i] < g->n; i++) {
+        size_t next = may_follow(g, path, len, row[i], from);
+        if (next != 0) {
+            path[len] = row[i];
+            f = grow(g, path, left - 1, next, f);
+        }
+    }
+    return f;
+}
+
+/* Every ring of 3 to limit atoms, shorter ones first. */
+static found each_length(given g, size_t limit)
+{
+    found f = {0, 0, false};
+    uint16_t path[MOST_LENGTH];
+    for (g.k = 3; g.k <= limit; g.k++)
+        for (size_t first = 0; first < g.n; first++) {
+            path[0] = (uint16_t)first;
+            f = grow(&g, path, g.k - 1, first + 1, f);
+        }
+    return f;
+}
+
+/* Fills the distance buffer, breadth first from each atom. */
+static void distances(size_t n, const uint16_t *table, uint8_t *dist)
+{
+    uint16_t queue[RINGS_ATOMS];
+    memset(dist, RINGS_NO_PATH, n * n);
+    for (size_t from = 0; from < n; from++) {
+        uint8_t *row = dist + from * n;
+        size_t head = 0, tail = 0;
+        row[from] = 0;
+        queue[tail++] = (uint16_t)from;
+        while (head < tail) {
+            size_t x = queue[head++];
+            for (size_t i = 0; i < ROW && table[x * ROW + i] < n; i++) {
+                size_t y = table[x * ROW + i];
+                if (row[y] == RINGS_NO_PATH) {
+                    row[y] = (uint8_t)(row[x] + 1);
+                    queue[tail++] = (uint16_t)y;
+                }
+            }
+        }
+    }
+}
+
+search_answer c_search(size_t n, const uint16_t *table, size_t limit, size_t allowance, uint8_t *dist, uint16_t *list,
+                       size_t list_len)
+{
+    given g = {n, 0, allowance, table, dist, 0, 0};
+    distances(n, table, dist);
+    found counted = each_length(g, limit);
+    if (counted.over)
+        return (search_answer){12, 0, 0};
+    if (list == 0)
+        return (search_answer){0, counted.rings, counted.words};
+    if (list_len < counted.words)
+        return (search_answer){13, 0, 0};
+    g.list = list;
+    g.list_len = list_len;
+    each_length(g, limit);
+    return (search_answer){0, counted.rings, counted.words};
+}

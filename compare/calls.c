@@ -1,0 +1,99 @@
+/* Each call of the library once, beside the model. */
+#include "calls.h"
+#include "lend.h"
+#include "report.h"
+
+/* A guarded copy of a table. */
+static lent lend_table(table_lent t)
+{
+    return lend_copy("table", 2, t.length, t.words);
+}
+
+void try_validate(table_lent t)
+{
+    lent table = lend_table(t);
+    rings_answer got = rings_validate(t.n, lent_to(&table), t.length);
+    rings_answer must_be = model_validate(t.n, t.words, t.length);
+    same_answer("rings_validate", &got, &must_be);
+    lent_check("rings_validate", &table);
+}
+
+void try_distances(table_lent t, size_t dist_len)
+{
+    lent table = lend_table(t), dist = lend("dist", 1, dist_len);
+    rings_answer got = rings_distances(t.n, lent_to(&table), t.length, lent_to(&dist), dist_len);
+    rings_answer must_be = model_distances(t.n, t.words, t.length, lent_must(&dist), dist_len);
+    same_answer("rings_distances", &got, &must_be);
+    lent_check("rings_distances", &table);
+    lent_check("rings_distances", &dist);
+}
+
+void try_test(table_lent t, const uint16_t *atoms, size_t k, size_t dist_len)
+{
+    lent table = lend_table(t), candidate = lend_copy("ring", 2, k, atoms), dist = lend("dist", 1, dist_len);
+    rings_candidate got =
+        rings_test(t.n, lent_to(&table), t.length, lent_to(&candidate), k, lent_to(&dist), dist_len);
+    rings_candidate must_be = model_test(t.n, t.words, t.length, atoms, k, lent_must(&dist), dist_len);
+    same_candidate("rings_test", &got, &must_be);
+    lent_check("rings_test", &table);
+    lent_check("rings_test", &candidate);
+    lent_check("rings_test", &dist);
+}
+
+void try_count(table_lent t, size_t limit, size_t allowance, size_t dist_len)
+{
+    lent table = lend_table(t), dist = lend("dist", 1, dist_len);
+    rings_census got = rings_count(t.n, lent_to(&table), t.length, limit, allowance, lent_to(&dist), dist_len);
+    rings_census must_be = model_count(t.n, t.words, t.length, limit, allowance, lent_must(&dist), dist_len);
+    same_census("rings_count", &got, &must_be);
+    lent_check("rings_count", &table);
+    lent_check("rings_count", &dist);
+}
+
+void try_list(table_lent t, size_t limit, size_t allowance, size_t dist_len, size_t list_len)
+{
+    lent table = lend_table(t), dist = lend("dist", 1, dist_len), list = lend("list", 2, list_len);
+    rings_census got = rings_list(t.n, lent_to(&table), t.length, limit, allowance, lent_to(&dist), dist_len,
+                                  lent_to(&list), list_len);
+    rings_census must_be = model_list(t.n, t.words, t.length, limit, allowance, lent_must(&dist), dist_len,
+                                      lent_must(&list), list_len);
+    same_census("rings_list", &got, &must_be);
+    lent_check("rings_list", &table);
+    lent_check("rings_list", &dist);
+    lent_check("rings_list", &list);
+}
+
+void try_renumber(table_lent t, const uint16_t *names, size_t names_len, size_t renamed_len)
+{
+    lent table = lend_table(t), name = lend_copy("names", 2, names_len, names);
+    lent renamed = lend("renamed", 2, renamed_len);
+    rings_answer got =
+        rings_renumber(t.n, lent_to(&table), t.length, lent_to(&name), names_len, lent_to(&renamed), renamed_len);
+    rings_answer must_be =
+        model_renumber(t.n, t.words, t.length, names, names_len, lent_must(&renamed), renamed_len);
+    same_answer("rings_renumber", &got, &must_be);
+    lent_check("rings_renumber", &table);
+    lent_check("rings_renumber", &name);
+    lent_check("rings_renumber", &renamed);
+    tally.renumberings++;
+}
+
+void try_read(const uint8_t *file, size_t file_len, size_t table_len)
+{
+    lent bytes = lend_copy("file", 1, file_len, file), table = lend("table", 2, table_len);
+    rings_reading got = rings_read(lent_to(&bytes), file_len, lent_to(&table), table_len);
+    rings_reading must_be = model_read(file, file_len, lent_must(&table), table_len);
+    same_reading("rings_read", &got, &must_be);
+    lent_check("rings_read", &bytes);
+    lent_check("rings_read", &table);
+}
+
+void try_write(table_lent t, size_t file_len)
+{
+    lent table = lend_table(t), bytes = lend("file", 1, file_len);
+    rings_written got = rings_write(t.n, lent_to(&table), t.length, lent_to(&bytes), file_len);
+    rings_written must_be = model_write(t.n, t.words, t.length, lent_must(&bytes), file_len);
+    same_written("rings_write", &got, &must_be);
+    lent_check("rings_write", &table);
+    lent_check("rings_write", &bytes);
+}

@@ -1,0 +1,135 @@
+/* The running case, the comparison of answers, and the tallies. */
+#include "report.h"
+
+tallies tally;
+
+static const char *case_kind = "";
+static uint32_t case_seed;
+
+void report_case(const char *kind, uint32_t seed)
+{
+    case_kind = kind;
+    case_seed = seed;
+}
+
+/* Names the case that differs. */
+static void differs(void)
+{
+    printf("compare: DIFFERENCE in the case of seed %lu, %s (again: compare 1 %lu)\n", (unsigned long)case_seed,
+           case_kind, (unsigned long)case_seed);
+}
+
+void report_number(const char *call, const char *what, unsigned long got, unsigned long must_be)
+{
+    differs();
+    printf("%s: %s is %lu and must be %lu\n", call, what, got, must_be);
+    exit(1);
+}
+
+void report_buffer(const char *call, const char *name, long at, long length, unsigned got, unsigned must_be)
+{
+    differs();
+    printf("%s: byte %ld of the buffer `%s` of %ld bytes%s is %u and must be %u\n", call, at, name, length,
+           at < 0 || at >= length ? " (outside it)" : "", got, must_be);
+    exit(1);
+}
+
+void report_model(const char *what)
+{
+    differs();
+    printf("the model itself: %s\n", what);
+    exit(1);
+}
+
+/* One whole number of an answer. */
+static void same(const char *call, const char *what, unsigned long got, unsigned long must_be)
+{
+    if (got != must_be)
+        report_number(call, what, got, must_be);
+}
+
+/* One bool of an answer, read as the byte that it is. */
+static void same_bool(const char *call, const char *what, const bool *got, bool must_be)
+{
+    unsigned char byte;
+    memcpy(&byte, got, 1);
+    same(call, what, byte, must_be ? 1 : 0);
+}
+
+/* One f64 of an answer, bit by bit. */
+static void same_double(const char *call, const char *what, double got, double must_be)
+{
+    __UINT64_TYPE__ a, b;
+    memcpy(&a, &got, 8);
+    memcpy(&b, &must_be, 8);
+    same(call, what, (unsigned long)a, (unsigned long)b);
+}
+
+/* Code, row and place. */
+static void same_fault(const char *call, const rings_answer *got, const rings_answer *must_be)
+{
+    same(call, "code", got->code, must_be->code);
+    same(call, "row", got->row, must_be->row);
+    same(call, "place", got->place, must_be->place);
+    tally.refusals[must_be->code]++;
+    tally.calls++;
+}
+
+void same_answer(const char *call, const rings_answer *got, const rings_answer *must_be)
+{
+    same_fault(call, got, must_be);
+}
+
+void same_census(const char *call, const rings_census *got, const rings_census *must_be)
+{
+    same_fault(call, &got->answer, &must_be->answer);
+    same(call, "limit", got->limit, must_be->limit);
+    for (int k = 0; k < 25; k++)
+        same(call, "a count", got->counts[k], must_be->counts[k]);
+    same(call, "total", got->total, must_be->total);
+    same(call, "words", got->words, must_be->words);
+    same_double(call, "per_atom (as bits)", got->per_atom, must_be->per_atom);
+    same_bool(call, "has_mean", &got->has_mean, must_be->has_mean);
+    same_double(call, "mean (as bits)", got->mean, must_be->mean);
+    tally.listings++;
+    tally.rings += must_be->total;
+}
+
+void same_candidate(const char *call, const rings_candidate *got, const rings_candidate *must_be)
+{
+    same_fault(call, &got->answer, &must_be->answer);
+    same_bool(call, "yes", &got->yes, must_be->yes);
+    same(call, "first", got->first, must_be->first);
+    same(call, "second", got->second, must_be->second);
+    for (int i = 0; i < 24; i++)
+        same(call, "a word of the writing", got->writing[i], must_be->writing[i]);
+    tally.candidates++;
+}
+
+void same_reading(const char *call, const rings_reading *got, const rings_reading *must_be)
+{
+    same_fault(call, &got->answer, &must_be->answer);
+    same(call, "atoms", got->atoms, must_be->atoms);
+    same(call, "bonds", got->bonds, must_be->bonds);
+    same(call, "value", (unsigned long)got->value, (unsigned long)must_be->value);
+    tally.files++;
+}
+
+void same_written(const char *call, const rings_written *got, const rings_written *must_be)
+{
+    same_fault(call, &got->answer, &must_be->answer);
+    same(call, "bytes", got->bytes, must_be->bytes);
+    tally.files++;
+}
+
+void report_tallies(void)
+{
+    printf("networks %zu, other tables %zu, files %zu, renumberings %zu, candidates %zu\n", tally.networks,
+           tally.tables, tally.files, tally.renumberings, tally.candidates);
+    printf("counts and listings %zu, rings compared %zu; networks searched in both of the model's ways %zu\n",
+           tally.listings, tally.rings, tally.both_ways);
+    printf("calls %zu, accepted %zu; refused, by number:", tally.calls, tally.refusals[0]);
+    for (int number = 1; number <= 28; number++)
+        printf(" %d:%zu", number, tally.refusals[number]);
+    printf("\n");
+}

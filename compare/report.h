@@ -1,0 +1,37 @@
+/* The running case, the comparison of answers, and the tallies that are printed at the end. */
+#ifndef COMPARE_REPORT_H
+#define COMPARE_REPORT_H
+
+#include "libc.h"
+
+/* What a run has compared. */
+typedef struct {
+    size_t cases, calls, networks, tables, files, renumberings, candidates, listings, rings, both_ways;
+    size_t refusals[29]; /* by number; 0: accepted */
+} tallies;
+
+extern tallies tally;
+
+/* Names the case that runs from here on. */
+void report_case(const char *kind, uint32_t seed);
+
+/* Ends the run: a whole number that the library answered is not what it must be. */
+void report_number(const char *call, const char *what, unsigned long got, unsigned long must_be);
+
+/* Ends the run: a byte of a lent buffer is not what it must be. */
+void report_buffer(const char *call, const char *name, long at, long length, unsigned got, unsigned must_be);
+
+/* Ends the run: the two ways of the model, or the model and the document, disagree. */
+void report_model(const char *what);
+
+/* Each compares all of an answer, field by field, and counts the call. */
+void same_answer(const char *call, const rings_answer *got, const rings_answer *must_be);
+void same_census(const char *call, const rings_census *got, const rings_census *must_be);
+void same_candidate(const char *call, const rings_candidate *got, const rings_candidate *must_be);
+void same_reading(const char *call, const rings_reading *got, const rings_reading *must_be);
+void same_written(const char *call, const rings_written *got, const rings_written *must_be);
+
+/* Prints the tallies. */
+void report_tallies(void);
+
+#endif
