@@ -6,3 +6,7 @@ pub mod Members
 pub mod Order
 pub mod Harmless
 pub mod Listed
+pub mod Passed
+pub mod Counts
+pub mod Outcomes
+pub mod OneOutcome

@@ -7,19 +7,17 @@ use native.Mathlib.Numerals.{add-one}
 use native.Mathlib.Omega.{arith}
 use lib.ListN.{length, getD}
 use Rattle.graph.specs.Lists.{_∈_}
-use Rattle.graph.specs.Graph.{Distance, around, ShortestPathRing}
-use Rattle.graph.specs.Writing.{OneWriting}
+use Rattle.graph.specs.Graph.{Distance, around}
 use Rattle.graph.specs.Listing.{Listed, RingListing}
 use Rattle.graph.proofs.Rings.{ring-by-distances}
 use Rattle.graph.proofs.Distances.{distance-unique}
-use Rattle.network.specs.Maxima.{atomsMost, places, free}
-use Rattle.network.specs.Network.{word, Bonded, IsNetwork}
+use Rattle.network.specs.Network.{Bonded, IsNetwork}
 use Rattle.network.proofs.Bonds.{bonded-from, bonded-to, bonded-back}
 use Rattle.distance.specs.Distances.{noPath, distance, DistanceTable}
 use Rattle.ring.specs.Maxima.{ringLeast, ringMost}
-use Rattle.search.specs.Search.{ringsOf, ringsUpTo}
+use Rattle.search.specs.Search.{ringsUpTo}
 use Rattle.search.specs.Turn.{mayFollow}
-use Rattle.search.specs.Shortest.{Chain, Shortest, RightAsFar}
+use Rattle.search.specs.Shortest.{Shortest, RightAsFar}
 use Rattle.search.proofs.Members.{gather-intro, gather-elim, listed-all, listed-only}
 use Rattle.search.proofs.Order.{rows-of, all-asc}
 use Rattle.search.proofs.Harmless.{turn-harmless}

@@ -1,0 +1,98 @@
+-- Counting and listing have one outcome each, and counting answers what listing would.
+use mathlib.Core.Path.{_≡_, refl, sym, _∙_, ap}
+use mathlib.Core.Bool.{Bool, true, false}
+use mathlib.Core.List.{List}
+use Prim.Native.Nat.{ℕ, _≤_}
+use native.Mathlib.Omega.{arith}
+use native.Mathlib.Decide.{ℕ-discrete}
+use borrow.Author.Tests.{le-ltb}
+use lib.Dec.{ltb}
+use lib.ListN.{length}
+use Rattle.graph.specs.Listing.{RingListing}
+use Rattle.graph.proofs.Listings.{ring-listing-unique}
+use Rattle.network.specs.declared.Answer.{Answer}
+use Rattle.network.specs.Network.{Bonded}
+use Rattle.network.specs.Verdict.{check, accepted}
+use Rattle.distance.proofs.Outcomes.{table-unique}
+use Rattle.search.specs.declared.Census.{Census}
+use Rattle.search.specs.State.{encode}
+use Rattle.search.specs.Census.{limitOf, beforeSearch, afterCount, afterList, settled, Searched, Outcome, CountOutcome, ListOutcome}
+
+abbrev code : Census → ℕ
+code c = c .answer .code
+
+module _ (n : ℕ) (t : List ℕ) (limit allowance : ℕ) (before : List ℕ) where
+  -- two searches of one network find one list of rings, and leave one table
+  searched-once : (f g : List (List ℕ) → Answer) (c e : Census) → ((rings : List (List ℕ)) → e ≡ settled n limit (g rings) rings → f rings ≡ g rings)
+      → (after after′ : List ℕ) → Searched n t limit f after c → Searched n t limit g after′ e → (c ≡ e) × (after ≡ after′)
+  searched-once f g c e alike after after′ S R =
+      let same : S .rings ≡ R .rings = ring-listing-unique (Bonded t) (limitOf limit) (S .rings) (R .rings) (S .listing) (R .listing) in (
+        S .says ∙ rw (same, alike (R .rings) (R .says)) (sym (R .says)),
+        table-unique n t after after′ (S .filled) (R .filled),
+      )
+
+  outcome-once : (f g : List (List ℕ) → Answer) (c e : Census) → ((rings : List (List ℕ)) → e ≡ settled n limit (g rings) rings → f rings ≡ g rings)
+      → (after after′ : List ℕ) → Outcome n t limit allowance f before after c → Outcome n t limit allowance g before after′ e → (c ≡ e) × (after ≡ after′)
+  outcome-once f g c e alike after after′ O Q =
+      elim (ℕ-discrete (beforeSearch n t limit allowance before .code) 0) [
+        | yes z ↦ searched-once f g c e alike after after′ (O .searched z) (Q .searched z)
+        | no z ↦ (O .refused z .0 ∙ sym (Q .refused z .0), O .refused z .1 ∙ sym (Q .refused z .1))
+      ]
+
+  -- one outcome of counting
+  pub count-once : (after after′ : List ℕ) (c e : Census) → CountOutcome n t limit allowance before after c → CountOutcome n t limit allowance before after′ e → (c ≡ e) × (after ≡ after′)
+  count-once after after′ c e = outcome-once (afterCount allowance) (afterCount allowance) c e (λ _ _. refl) after after′
+
+  module _ (l : List ℕ) where
+    -- an accepted call has searched
+    reached : (f : List (List ℕ) → Answer) (after : List ℕ) (c : Census) → Outcome n t limit allowance f before after c → code c ≡ 0 → Searched n t limit f after c
+    reached f after c O z =
+        elim (ℕ-discrete (beforeSearch n t limit allowance before .code) 0) [
+          | yes y ↦ O .searched y
+          | no y ↦ absurd (y (ap code (sym (O .refused y .0)) ∙ z))
+        ]
+
+    -- one outcome of listing
+    pub list-once : (after after′ l′ l″ : List ℕ) (c e : Census) → ListOutcome n t limit allowance before after l l′ c → ListOutcome n t limit allowance before after′ l l″ e → (c ≡ e) × (after ≡ after′) × (l′ ≡ l″)
+    list-once after after′ l′ l″ c e O Q =
+        let both = outcome-once (afterList allowance (length l)) (afterList allowance (length l)) c e (λ _ _. refl) after after′ (O .census) (Q .census) in (
+          both .0,
+          both .1,
+          elim (ℕ-discrete (code c) 0) [
+            | yes z ↦ (let S = reached (afterList allowance (length l)) after c (O .census) z in O .written z (S .rings) (S .listing) ∙ sym (Q .written (ap code (sym (both .0)) ∙ z) (S .rings) (S .listing)))
+            | no z ↦ O .kept z ∙ sym (Q .kept (λ y. z (ap code (both .0) ∙ y)))
+          ],
+        )
+
+    alike : (e : Census) → (code e ≡ 13 → ⊥) → (rings : List (List ℕ)) → e ≡ settled n limit (afterList allowance (length l) rings) rings → afterCount allowance rings ≡ afterList allowance (length l) rings
+    alike e z rings h = go (ltb allowance (length rings)) (ltb (length l) (length (encode rings))) h
+      where
+        go : (many long : Bool) → e ≡ settled n limit (check 12 many (check 13 long accepted)) rings → check 12 many accepted ≡ check 12 many (check 13 long accepted)
+        go true long h = refl
+        go false false h = refl
+        go false true h = absurd (z (ap code h))
+
+    -- counting answers what listing would, unless listing has too little room
+    pub count-like-list : (after after′ l′ : List ℕ) (c e : Census) → CountOutcome n t limit allowance before after c → ListOutcome n t limit allowance before after′ l l′ e
+        → (code e ≡ 13 → ⊥) → (c ≡ e) × (after ≡ after′)
+    count-like-list after after′ l′ c e O Q z = outcome-once (afterCount allowance) (afterList allowance (length l)) c e (alike e z) after after′ O (Q .census)
+
+    -- and where counting is accepted, a list buffer of the words that it tells has room
+    pub room-told : (after after′ l′ : List ℕ) (c e : Census) → CountOutcome n t limit allowance before after c → ListOutcome n t limit allowance before after′ l l′ e
+        → code c ≡ 0 → c .words ≤ length l → c ≡ e
+    room-told after after′ l′ c e O Q z room =
+        let S = reached (afterCount allowance) after c O z in
+        count-like-list after after′ l′ c e O Q (settles (S .rings) (ltb allowance (length (S .rings))) (S .says) (found (S .rings) (S .listing))) .0
+      where
+        found : (rings : List (List ℕ)) → RingListing (Bonded t) (limitOf limit) rings → e ≡ settled n limit (afterList allowance (length l) rings) rings
+        found rings h =
+            elim (ℕ-discrete (beforeSearch n t limit allowance before .code) 0) [
+              | yes y ↦ (let R = Q .census .searched y in rw (ring-listing-unique (Bonded t) (limitOf limit) rings (R .rings) h (R .listing)) (R .says))
+              | no y ↦ absurd (y (ap code (sym (O .refused y .0)) ∙ z))
+            ]
+
+        settles : (rings : List (List ℕ)) (many : Bool) → c ≡ settled n limit (check 12 many accepted) rings → e ≡ settled n limit (check 12 many (check 13 (ltb (length l) (length (encode rings))) accepted)) rings → code e ≡ 13 → ⊥
+        settles rings true h g k = omega (arith, k, ap code g)
+        settles rings false h g k =
+            let enough : length (encode rings) ≤ length l = omega (arith, ap (λ (x : Census). x .words) h, room) in
+            omega (arith, k, ap code (rw (le-ltb (length l) (length (encode rings)) enough) at g))

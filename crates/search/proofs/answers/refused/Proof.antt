@@ -1,0 +1,12 @@
+use borrow.Author.Needs.{needs}
+use Rattle.search.proofs.answers.refused.Statement.{statement}
+use Rattle.search.proofs.answers.refused.Tie as tie
+
+no-averages-requires : tie.Need-no-averages-requires
+no-averages-requires c κs = search needs
+
+returns : tie.Need-returns
+returns c = rw (c .no-averages .ensures)
+
+pub refused-spec : {M : Type 1} → statement M
+refused-spec = tie.close (tie.spec no-averages-requires returns)

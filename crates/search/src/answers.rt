@@ -1,0 +1,49 @@
+// The census of a call, accepted or refused.
+use crate::Census;
+use crate::average;
+use crate::grow::Tally;
+use network::Answer;
+use ring::Ring;
+ghost use mathlib.Core.Path.{_≡_};
+ghost use Prim.Native.Nat.{ℕ, _≤_};
+ghost use Rattle.network.specs.Network.{Counted};
+ghost use Rattle.ring.specs.Maxima.{allowanceMost};
+ghost use Rattle.search.specs.Census.{censusWith, noCensus};
+ghost use Rattle.search.specs.State.{Fits};
+
+// What an accepted call says of the rings found.
+pub fn accepted(n: usize, limit: usize, tally: Tally) -> Census
+    requires { ⌜ Counted n ⌝ }
+    requires { ⌜ Fits (tally .found) × ((tally .found .rings ≤ tally .found .at) × (tally .found .rings ≤ allowanceMost)) ⌝ }
+    ensures { λ r. ⌜ r ≡ censusWith n limit (tally .counts) (tally .found .rings) (tally .found .at) ⌝ }
+{
+    let answer = Answer::accepted();
+    let counts = tally.counts;
+    let total = tally.found.rings;
+    let words = tally.found.at;
+    let lengths = words - total as usize;
+    let averages = average::averages_of(n as u32, total, lengths as u32);
+    Census {
+        answer,
+        limit,
+        counts,
+        total,
+        words,
+        averages,
+    }
+}
+
+// What a refused call says.
+pub fn refused(answer: Answer) -> Census
+    ensures { λ r. ⌜ r ≡ noCensus answer ⌝ }
+{
+    let averages = average::no_averages();
+    Census {
+        answer,
+        limit: 0,
+        counts: [0u32; Ring::LENGTH + 1],
+        total: 0,
+        words: 0,
+        averages,
+    }
+}

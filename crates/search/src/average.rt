@@ -1,0 +1,39 @@
+// The averages of a census: each one division of whole numbers that are cast without loss.
+use crate::Averages;
+use crate::Mean;
+ghost use mathlib.Core.Path.{_≡_};
+ghost use Rattle.search.specs.Averages.{quotient, meanOf, averagesOf, noAverages};
+
+// Rings per atom, and the mean length of `total` rings whose lengths add up to `lengths`.
+pub fn averages_of(n: u32, total: u32, lengths: u32) -> Averages
+    ensures { λ r. ⌜ r ≡ averagesOf n total lengths ⌝ }
+{
+    let per_atom = quotient(total, n);
+    let mean = mean_of(total, lengths);
+    Averages { per_atom, mean }
+}
+
+// What a refused call gives.
+pub fn no_averages() -> Averages
+    ensures { λ r. ⌜ r ≡ noAverages ⌝ }
+{
+    Averages {
+        per_atom: 0.0,
+        mean: Mean::NoRings,
+    }
+}
+
+fn mean_of(total: u32, lengths: u32) -> Mean
+    ensures { λ r. ⌜ r ≡ meanOf total lengths ⌝ }
+{
+    if total == 0 {
+        return Mean::NoRings;
+    }
+    Mean::Of(quotient(lengths, total))
+}
+
+fn quotient(a: u32, b: u32) -> f64
+    ensures { λ r. ⌜ r ≡ quotient a b ⌝ }
+{
+    a as f64 / b as f64
+}
