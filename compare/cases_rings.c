@@ -13,26 +13,25 @@ static size_t turned_ring(const ring_list *found, uint16_t *atoms)
     return k;
 }
 
-/* Walks at random over atoms not yet met; stops at random where the walk is closed, and where it is stuck. */
+/* Walks at random over atoms not yet met, as far as it goes; mostly gives a part of the walk that is closed. */
 static size_t random_walk(const network *net, uint16_t *atoms)
 {
     bool met[MOST_ATOMS] = {false};
-    size_t k = 0, x = random_below(net->atoms), wanted = random_from(3, MOST_LENGTH);
-    for (;;) {
+    size_t k = 0, closed = 0, x = random_below(net->atoms);
+    while (k < MOST_LENGTH && x < net->atoms) {
         atoms[k++] = (uint16_t)x;
         met[x] = true;
-        if (k == MOST_LENGTH || (k >= wanted && net->bonded[x][atoms[0]]))
-            return k;
+        if (k >= 3 && net->bonded[x][atoms[0]] && (closed == 0 || random_once_in(2)))
+            closed = k;
         size_t start = random_below(net->degree[x] + 1), next = net->atoms;
         for (size_t i = 0; i < net->degree[x]; i++) {
             uint16_t y = net->neighbour[x][(start + i) % net->degree[x]];
             if (!met[y])
                 next = y;
         }
-        if (next == net->atoms)
-            return k;
         x = next;
     }
+    return closed > 0 && !random_once_in(6) ? closed : k;
 }
 
 /* Any atoms in any number. */

@@ -77,6 +77,25 @@ static void try_known(const known *k)
     case_candidates(t, &net, model_rings(model_network(t.n, words), k->limit == 0 ? 12 : k->limit));
 }
 
+/* A cycle of the network at hand that is no shortest-path ring, though near misses take it for one: from every place,
+ * in both directions. */
+static void try_near_miss(const char *name, size_t n, const int *bonds, size_t first, size_t length)
+{
+    uint16_t atoms[MOST_LENGTH];
+    size_t i, j;
+    network_clear(&net, n);
+    for (i = 0; bonds[i] >= 0; i += 2)
+        bond(&net, (size_t)bonds[i], (size_t)bonds[i + 1]);
+    table_lent t = table_of(name);
+    for (size_t start = 0; start < 2 * length; start++) {
+        for (size_t at = 0; at < length; at++)
+            atoms[at] = (uint16_t)(first + (start < length ? start + at : start + length - at) % length);
+        if (every_pair_fits(&net, atoms, length, &i, &j))
+            report_model("a near miss is taken for a ring");
+        try_test(t, atoms, length, n * n);
+    }
+}
+
 /* A cycle, at a limit. */
 static void try_cycle(size_t length, size_t limit, size_t rings)
 {
@@ -134,6 +153,9 @@ void known_networks(void)
     random_start(0);
     for (size_t i = 0; i < sizeof knowns / sizeof *knowns; i++)
         try_known(&knowns[i]);
+    try_near_miss("P5's cycle of 8", 9, p5, 0, 8);
+    try_near_miss("P6's cycle of 8", 9, p6, 1, 8);
+    try_near_miss("P7's cycle of 7", 8, p7, 0, 7);
     try_cycle(24, 24, 1);
     try_cycle(24, 23, 0);
     try_cycle(25, 24, 0);

@@ -19,10 +19,10 @@ static void differs(void)
            case_kind, (unsigned long)case_seed);
 }
 
-void report_number(const char *call, const char *what, unsigned long got, unsigned long must_be)
+void report_number(const char *call, const char *what, long got, long must_be)
 {
     differs();
-    printf("%s: %s is %lu and must be %lu\n", call, what, got, must_be);
+    printf("%s: %s is %ld and must be %ld\n", call, what, got, must_be);
     exit(1);
 }
 
@@ -42,7 +42,7 @@ void report_model(const char *what)
 }
 
 /* One whole number of an answer. */
-static void same(const char *call, const char *what, unsigned long got, unsigned long must_be)
+static void same(const char *call, const char *what, long got, long must_be)
 {
     if (got != must_be)
         report_number(call, what, got, must_be);
@@ -62,15 +62,15 @@ static void same_double(const char *call, const char *what, double got, double m
     __UINT64_TYPE__ a, b;
     memcpy(&a, &got, 8);
     memcpy(&b, &must_be, 8);
-    same(call, what, (unsigned long)a, (unsigned long)b);
+    same(call, what, (long)a, (long)b);
 }
 
 /* Code, row and place. */
 static void same_fault(const char *call, const rings_answer *got, const rings_answer *must_be)
 {
     same(call, "code", got->code, must_be->code);
-    same(call, "row", got->row, must_be->row);
-    same(call, "place", got->place, must_be->place);
+    same(call, "row", (long)got->row, (long)must_be->row);
+    same(call, "place", (long)got->place, (long)must_be->place);
     tally.refusals[must_be->code]++;
     tally.calls++;
 }
@@ -83,11 +83,11 @@ void same_answer(const char *call, const rings_answer *got, const rings_answer *
 void same_census(const char *call, const rings_census *got, const rings_census *must_be)
 {
     same_fault(call, &got->answer, &must_be->answer);
-    same(call, "limit", got->limit, must_be->limit);
+    same(call, "limit", (long)got->limit, (long)must_be->limit);
     for (int k = 0; k < 25; k++)
         same(call, "a count", got->counts[k], must_be->counts[k]);
     same(call, "total", got->total, must_be->total);
-    same(call, "words", got->words, must_be->words);
+    same(call, "words", (long)got->words, (long)must_be->words);
     same_double(call, "per_atom (as bits)", got->per_atom, must_be->per_atom);
     same_bool(call, "has_mean", &got->has_mean, must_be->has_mean);
     same_double(call, "mean (as bits)", got->mean, must_be->mean);
@@ -99,8 +99,8 @@ void same_candidate(const char *call, const rings_candidate *got, const rings_ca
 {
     same_fault(call, &got->answer, &must_be->answer);
     same_bool(call, "yes", &got->yes, must_be->yes);
-    same(call, "first", got->first, must_be->first);
-    same(call, "second", got->second, must_be->second);
+    same(call, "first", (long)got->first, (long)must_be->first);
+    same(call, "second", (long)got->second, (long)must_be->second);
     for (int i = 0; i < 24; i++)
         same(call, "a word of the writing", got->writing[i], must_be->writing[i]);
     tally.candidates++;
@@ -109,16 +109,16 @@ void same_candidate(const char *call, const rings_candidate *got, const rings_ca
 void same_reading(const char *call, const rings_reading *got, const rings_reading *must_be)
 {
     same_fault(call, &got->answer, &must_be->answer);
-    same(call, "atoms", got->atoms, must_be->atoms);
-    same(call, "bonds", got->bonds, must_be->bonds);
-    same(call, "value", (unsigned long)got->value, (unsigned long)must_be->value);
+    same(call, "atoms", (long)got->atoms, (long)must_be->atoms);
+    same(call, "bonds", (long)got->bonds, (long)must_be->bonds);
+    same(call, "value", got->value, must_be->value);
     tally.files++;
 }
 
 void same_written(const char *call, const rings_written *got, const rings_written *must_be)
 {
     same_fault(call, &got->answer, &must_be->answer);
-    same(call, "bytes", got->bytes, must_be->bytes);
+    same(call, "bytes", (long)got->bytes, (long)must_be->bytes);
     tally.files++;
 }
 

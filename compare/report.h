@@ -16,7 +16,7 @@ extern tallies tally;
 void report_case(const char *kind, uint32_t seed);
 
 /* Ends the run: a whole number that the library answered is not what it must be. */
-void report_number(const char *call, const char *what, unsigned long got, unsigned long must_be);
+void report_number(const char *call, const char *what, long got, long must_be);
 
 /* Ends the run: a byte of a lent buffer is not what it must be. */
 void report_buffer(const char *call, const char *name, long at, long length, unsigned got, unsigned must_be);

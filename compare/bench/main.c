@@ -12,22 +12,17 @@ static uint8_t dist[MOST_ATOMS * MOST_ATOMS], c_dist[MOST_ATOMS * MOST_ATOMS];
 static uint16_t *list, *c_list;
 
 /* What is timed: the three calls on the network at hand. */
-typedef enum { COUNT, LIST, C_LIST } call;
+typedef enum { COUNT, LIST, C_LIST, CALLS } call;
 
-/* What a call answered. */
-static search_answer answer;
-
-/* Makes one call. */
-static void run(call which, size_t limit)
+/* Makes one call, and gives what it answered. */
+static search_answer run(call which, size_t limit)
 {
     size_t n = net.atoms, room = RINGS_LIST_WORDS(ALLOWANCE);
-    if (which == C_LIST) {
-        answer = c_search(n, table, limit, ALLOWANCE, c_dist, c_list, room);
-        return;
-    }
+    if (which == C_LIST)
+        return c_search(n, table, limit, ALLOWANCE, c_dist, c_list, room);
     rings_census got = which == COUNT ? rings_count(n, table, 8 * n, limit, ALLOWANCE, dist, n * n)
                                       : rings_list(n, table, 8 * n, limit, ALLOWANCE, dist, n * n, list, room);
-    answer = (search_answer){got.answer.code, got.total, got.words};
+    return (search_answer){got.answer.code, got.total, got.words};
 }
 
 /* The time now, in milliseconds. */
@@ -38,39 +33,51 @@ static double now(void)
     return (double)t.tv_sec * 1e3 + (double)t.tv_nsec / 1e6;
 }
 
-/* The best time of a call: of three runs at least, and more while they are short. */
-static double best(call which, size_t limit)
+/* The best time of each call: they take turns, five times at least, and more while they are short. */
+static void best(size_t limit, double least[CALLS], search_answer said[CALLS])
 {
-    double least = 1e30, sum = 0;
-    for (int runs = 0; runs < 3 || (sum < 100 && runs < 200); runs++) {
-        double began = now();
-        run(which, limit);
-        double took = now() - began;
-        sum += took;
-        least = took < least ? took : least;
-    }
-    return least;
+    double sum = 0;
+    for (int which = 0; which < CALLS; which++)
+        least[which] = 1e30;
+    for (int runs = 0; runs < 5 || (sum < 300 && runs < 200); runs++)
+        for (int which = 0; which < CALLS; which++) {
+            double began = now();
+            said[which] = run((call)which, limit);
+            double took = now() - began;
+            sum += took;
+            least[which] = took < least[which] ? took : least[which];
+        }
+}
+
+/* Whether the library and C have answered and filled the same. */
+static bool agree(const search_answer said[CALLS])
+{
+    size_t n = net.atoms;
+    for (int which = 0; which < CALLS; which++)
+        if (said[which].code != said[C_LIST].code || said[which].rings != said[C_LIST].rings ||
+            said[which].words != said[C_LIST].words)
+            return false;
+    return memcmp(list, c_list, said[C_LIST].words * sizeof(uint16_t)) == 0 && memcmp(dist, c_dist, n * n) == 0;
 }
 
 /* Measures the network at hand at one limit, and prints a line. */
 static void measure(const char *name, size_t limit)
 {
+    double least[CALLS];
+    search_answer said[CALLS];
     network_complete(&net);
     network_table(&net, table);
-    double c = best(C_LIST, limit);
-    search_answer c_answer = answer;
-    double count = best(COUNT, limit), listing = best(LIST, limit);
-    if (answer.code != c_answer.code || answer.rings != c_answer.rings ||
-        memcmp(list, c_list, answer.words * sizeof(uint16_t)) != 0 || memcmp(dist, c_dist, net.atoms * net.atoms) != 0) {
+    best(limit, least, said);
+    if (!agree(said)) {
         printf("%s, limit %zu: the library and C differ\n", name, limit);
         exit(1);
     }
     printf("%-28s %5zu %5zu ", name, net.atoms, limit);
-    if (answer.code != 0)
+    if (said[LIST].code != 0)
         printf("%10s", "refused 12");
     else
-        printf("%10zu", answer.rings);
-    printf(" %11.3f %11.3f %11.3f %6.2f\n", count, listing, c, listing / c);
+        printf("%10zu", said[LIST].rings);
+    printf(" %11.3f %11.3f %11.3f %6.2f\n", least[COUNT], least[LIST], least[C_LIST], least[LIST] / least[C_LIST]);
 }
 
 /* Measures the network at hand at both limits. */
@@ -101,7 +108,7 @@ static void shapes(void)
 {
     make_glass(&net, 64), both_limits("silica, amorphous");
     make_diamond(&net, 2), bridge_bonds(&net), both_limits("silica, beta-cristobalite");
-    make_diamond(&net, 3), switch_bonds(&net, 216), both_limits("silicon, bonds switched");
+    make_diamond(&net, 3), switch_bonds(&net, 54), both_limits("silicon, bonds switched");
     make_cube(false), both_limits("cube 6x6x6");
     make_cube(true), both_limits("torus 6x6x6");
     make_random_rows(), both_limits("random, degree 8");

@@ -51,14 +51,23 @@ static bool every_pair(const given *g, const uint16_t *path)
     return true;
 }
 
+/* The first atom from `from` on at a distance, in a row of the distance buffer, or n. */
+static size_t next_at(const uint8_t *row, size_t n, size_t way, size_t from)
+{
+    while (from < n && row[from] != way)
+        from++;
+    return from;
+}
+
 /* The first atom from `from` on that fits just past half the ring once a follows, or 0; `from` past that place. */
 static size_t look_ahead(const given *g, const uint16_t *path, size_t len, size_t a, size_t from)
 {
     if (g->k / 2 < len)
         return from;
     size_t at = g->k / 2 + 1, way = around(g->k, at - len);
-    for (size_t y = from; y < g->n; y++)
-        if (g->dist[a * g->n + y] == way && fits_before(g, path, len, at, y))
+    const uint8_t *row = g->dist + a * g->n;
+    for (size_t y = next_at(row, g->n, way, from); y < g->n; y = next_at(row, g->n, way, y + 1))
+        if (fits_before(g, path, len, at, y))
             return y;
     return 0;
 }
