@@ -1,13 +1,13 @@
 -- Laws of lists: what is gathered, kept and counted, tests, and ascending lists, which their members determine.
 use mathlib.Core.Path.{_≡_, refl, sym, _∙_, ap, ap₂, subst}
-use mathlib.Core.Logic.{_≢_, _⊎_, inl, inr, _↔_}
+use mathlib.Core.Logic.{_≢_, _⊎_, inl, inr}
 use mathlib.Core.Bool.{Bool, true, false, _&&_, _||_}
 use mathlib.Core.List.{List, [], _∷_, _++_, map, List·Memᴰ·head, List·Memᴰ·tail, List·Memᴰ·not-nil, List·Memᴰ·cases-cons, Memᴰ·append-left, Memᴰ·append-right, List·Memᴰ·append-cases}
 use Prim.Native.Nat.{ℕ, zero, suc, _+_, _≤_, _<_}
 use native.Mathlib.Omega.{arith}
 use native.Mathlib.Decide.{ℕ-discrete}
 use lib.Dec.{T}
-use lib.ListN.{length, getD}
+use lib.ListN.{length, getD, length-map}
 use Rattle.graph.specs.Lists.{_∈_, Ascending, gather, consIf, keep, count, every}
 
 pub and-T : (a b : Bool) → T (a && b) → T a × T b
@@ -215,3 +215,10 @@ apart-places R irr d (x ∷ xs) h (suc i) (suc j) l k e = apart-places R irr d x
 pub map-same : {A : Type 0} (xs : List A) → map (λ x. x) xs ≡ xs
 map-same [] = refl
 map-same (x ∷ xs) = ap (λ ys. x ∷ ys) (map-same xs)
+
+-- a list made from its places
+pub length-made : (f : ℕ → ℕ) (n : ℕ) → length (map f (count n 0)) ≡ n
+length-made f n = length-map (count n 0) f ∙ length-count n 0
+
+pub getD-made : (f : ℕ → ℕ) (n i : ℕ) → i < n → getD (map f (count n 0)) i 0 ≡ f i
+getD-made f n i l = getD-map f (count n 0) i 0 0 (omega (arith, length-count n 0)) ∙ ap f (getD-count n 0 i 0 l ∙ omega arith)

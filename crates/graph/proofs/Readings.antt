@@ -3,7 +3,7 @@ use mathlib.Core.Path.{_≡_, refl, sym, _∙_, ap, subst}
 use mathlib.Core.Logic.{_≢_, _⊎_, inl, inr}
 use mathlib.Core.List.{List, map}
 use Prim.Native.Nat.{ℕ, zero, suc, _+_, _-_, _%_, _≤_, _<_, min}
-use native.Mathlib.Nat.{mod-eq-of-lt, mod-eq-sub-mod, mod-lt}
+use native.Mathlib.Nat.{add-assoc, mod-eq-of-lt, mod-eq-sub-mod, mod-lt, mod-add-mod, add-mod-mod, add-mod-right}
 use native.Mathlib.Decide.{decLe, decLt}
 use native.Mathlib.Omega.{arith}
 use lib.ListN.{length, getD, length-map}
@@ -144,6 +144,60 @@ module _ {Vertex : Type 0} (o : Vertex) where
       go (inr f) _ (no c) =
           let li : R .start - p < length r = omega (arith, lm) in
           (R .start - p, li, onto (R .start + (length r - (R .start - p))) (R .start - p) li (omega (arith, lm)) (f (R .start - p) li) (inr (omega (arith, lm))), λ z. omega arith)
+
+-- to read on from a reading
+turn-onwards : (k a b g : ℕ) → (a + (b + g) % k) % k ≡ ((a + b) % k + g) % k
+turn-onwards k a b g = add-mod-mod a (b + g) k ∙ ap (λ x. x % k) (sym (add-assoc a b g)) ∙ sym (mod-add-mod (a + b) k g)
+
+turn-backwards : (k a b g : ℕ) → b < k → g ≤ k → (a + (k - (b + g) % k)) % k ≡ ((a + (k - b)) % k + (k - g)) % k
+turn-backwards k a b g l m = go ((b + g) % k) (wrap k (b + g) (omega arith)) ∙ sym (mod-add-mod (a + (k - b)) k (k - g))
+  where
+    go : (x : ℕ) → Wrapped k (b + g) x → (a + (k - x)) % k ≡ (a + (k - b) + (k - g)) % k
+    go x (inl h) = sym (add-mod-right (a + (k - x)) k) ∙ ap (λ y. y % k) (let e : a + (k - x) + k ≡ a + (k - b) + (k - g) = omega arith in e)
+    go x (inr h) = ap (λ y. y % k) (let e : a + (k - x) ≡ a + (k - b) + (k - g) = omega arith in e)
+
+module _ {Vertex : Type 0} (o : Vertex) where
+  pub reading-self : (r : List Vertex) → 0 < length r → Reading o r r
+  reading-self r l = record {
+    alike = refl;
+    start = 0;
+    starts = l;
+    reads = inl (λ i k. sym (ap (λ x. getD r x o) (ap (λ x. x % length r) (let e : 0 + i ≡ i = omega arith in e) ∙ mod-eq-of-lt k)));
+  }
+
+  -- a reading of a reading is a reading
+  pub reading-trans : (r s u : List Vertex) → Reading o r s → Reading o s u → Reading o r u
+  reading-trans r s u R S = go (R .reads) (S .reads)
+    where
+      a : ℕ
+      a = R .start
+
+      b : ℕ
+      b = S .start
+
+      lb : b < length r
+      lb = omega (arith, S .starts, R .alike)
+
+      onwards : Onwards o s u b → (i : ℕ) → i < length r → getD u i o ≡ getD s ((b + i) % length r) o
+      onwards f i l = subst (λ m. getD u i o ≡ getD s ((b + i) % m) o) (R .alike) (f i (omega (arith, R .alike)))
+
+      backwards : Backwards o s u b → (i : ℕ) → i < length r → getD u i o ≡ getD s ((b + (length r - i)) % length r) o
+      backwards f i l = subst (λ m. getD u i o ≡ getD s ((b + (m - i)) % m) o) (R .alike) (f i (omega (arith, R .alike)))
+
+      from : (c : ℕ) → c < length r → Onwards o r u c ⊎ Backwards o r u c → Reading o r u
+      from c l f = record { alike = S .alike ∙ R .alike; start = c; starts = l; reads = f }
+
+      go : Onwards o r s a ⊎ Backwards o r s a → Onwards o s u b ⊎ Backwards o s u b → Reading o r u
+      go (inl f) (inl g) = from ((a + b) % length r) (mod-lt (a + b) (omega (arith, lb))) (inl (λ i l.
+          onwards g i l ∙ f ((b + i) % length r) (mod-lt (b + i) (omega arith)) ∙ ap (λ x. getD r x o) (turn-onwards (length r) a b i)))
+      go (inl f) (inr g) = from ((a + b) % length r) (mod-lt (a + b) (omega (arith, lb))) (inr (λ i l.
+          backwards g i l ∙ f ((b + (length r - i)) % length r) (mod-lt (b + (length r - i)) (omega arith)) ∙ ap (λ x. getD r x o) (turn-onwards (length r) a b (length r - i))))
+      go (inr f) (inl g) = from ((a + (length r - b)) % length r) (mod-lt (a + (length r - b)) (omega (arith, lb))) (inr (λ i l.
+          onwards g i l ∙ f ((b + i) % length r) (mod-lt (b + i) (omega arith)) ∙ ap (λ x. getD r x o) (turn-backwards (length r) a b i lb (omega arith))))
+      go (inr f) (inr g) = from ((a + (length r - b)) % length r) (mod-lt (a + (length r - b)) (omega (arith, lb))) (inl (λ i l.
+          backwards g i l ∙ f ((b + (length r - i)) % length r) (mod-lt (b + (length r - i)) (omega arith))
+          ∙ ap (λ x. getD r x o) (turn-backwards (length r) a b (length r - i) lb (omega arith)
+          ∙ ap (λ x. ((a + (length r - b)) % length r + x) % length r) (let e : length r - (length r - i) ≡ i = omega arith in e))))
 
 -- a reading read back
 there-back : (k m n p x y : ℕ) → m < k → p < k → n < k → Wrapped k (k - m) n → Wrapped k (n + p) x → Wrapped k (m + x) y → y ≡ p

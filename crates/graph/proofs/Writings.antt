@@ -1,17 +1,17 @@
 -- Every ring has exactly one writing among its readings.
-use mathlib.Core.Path.{_≡_, refl, sym, _∙_, ap, subst}
+use mathlib.Core.Path.{_≡_, sym, _∙_, ap, subst}
 use mathlib.Core.Logic.{_≢_, _⊎_, inl, inr}
 use mathlib.Core.List.{List, map}
 use Prim.Native.Nat.{ℕ, zero, suc, _+_, _-_, _%_, _≤_, _<_}
 use native.Mathlib.Nat.{mod-lt, le-refl}
 use native.Mathlib.Decide.{decLe, decLt, ℕ-discrete}
 use native.Mathlib.Omega.{arith}
-use lib.ListN.{length, getD, length-map}
+use lib.ListN.{length, getD}
 use lib.Seq.{ext-getD}
 use Rattle.graph.specs.Lists.{count}
 use Rattle.graph.specs.Graph.{Ring}
 use Rattle.graph.specs.Writing.{Onwards, Backwards, Reading, OneWriting}
-use Rattle.graph.proofs.Lists.{length-count, getD-count, getD-map}
+use Rattle.graph.proofs.Lists.{length-made, getD-made}
 use Rattle.graph.proofs.Readings.{Wrapped, wrap, wrapped, reaches}
 
 -- of the least numbers of a list, one stands at a place
@@ -93,32 +93,87 @@ writing-unique r s t R S u v h = same (R .reads) (S .reads)
     same (inl a) (inr b) = absurd (cross s t e f u v (R .start) (S .start) (sym start) a b)
     same (inr a) (inl b) = absurd (cross t s f e v u (S .start) (R .start) start b a)
 
+-- a reading that starts at a smallest vertex is the one writing, if it is read in the right direction
+module _ (r : List ℕ) (h : 3 ≤ length r) (d : (i j : ℕ) → i < j → j < length r → getD r i 0 ≢ getD r j 0)
+    (m : ℕ) (lm : m < length r) (least : (i : ℕ) → i < length r → getD r m 0 ≤ getD r i 0) (s : List ℕ) (alike : length s ≡ length r) where
+  fw : ℕ → ℕ
+  fw i = (m + i) % length r
+
+  bw : ℕ → ℕ
+  bw i = (m + (length r - i)) % length r
+
+  away : (a : ℕ) → a < length r + length r → a ≢ m → a ≢ m + length r → a % length r ≢ m
+  away a l x y = part (wrap (length r) a l)
+    where
+      part : Wrapped (length r) a (a % length r) → a % length r ≢ m
+      part (inl e) = omega arith
+      part (inr e) = omega arith
+
+  ne : (x y : ℕ) → x < length r → y < length r → x ≢ y → getD r x 0 ≢ getD r y 0
+  ne x y lx ly n = part (decLt x y)
+    where
+      part : Dec (x < y) → getD r x 0 ≢ getD r y 0
+      part (yes c) = d x y c ly
+      part (no c) = λ e. d y x (omega arith) lx (sym e)
+
+  written : (q : ℕ → ℕ) → ((i : ℕ) → i < length r → getD s i 0 ≡ getD r (q i) 0) → q 0 ≡ m → ((i : ℕ) → 0 < i → i < length r → q i ≢ m) → ((i : ℕ) → q i < length r)
+      → getD r (q 1) 0 < getD r (q (length r - 1)) 0 → OneWriting s
+  written q reads e f b c = record {
+    smallest = λ i l l′.
+        omega (arith, reads 0 (omega arith), reads i (omega (arith, alike)), ap (λ z. getD r z 0) e, least (q i) (b i), ne (q i) m (b i) lm (f i l (omega (arith, alike))));
+    turn = rw alike (omega (arith, reads 1 (omega arith), reads (length r - 1) (omega arith)));
+  }
+
+  pub onwards-written : Onwards 0 r s m → getD r ((m + 1) % length r) 0 < getD r ((m + (length r - 1)) % length r) 0 → OneWriting s
+  unfolding fw
+  onwards-written reads c =
+      written fw reads (wrapped (length r) (m + 0) (fw 0) m (wrap (length r) (m + 0) (omega (arith, lm))) (inl (omega (arith, lm))))
+      (λ i l l′. away (m + i) (omega (arith, lm)) (omega (arith, lm)) (omega (arith, lm))) (λ i. mod-lt (m + i) (omega (arith, lm))) c
+
+  pub backwards-written : Backwards 0 r s m → (getD r ((m + 1) % length r) 0 < getD r ((m + (length r - 1)) % length r) 0 → ⊥) → OneWriting s
+  unfolding fw bw
+  backwards-written reads c =
+      written bw reads (wrapped (length r) (m + (length r - 0)) (bw 0) m (wrap (length r) (m + (length r - 0)) (omega (arith, lm))) (inr (omega (arith, lm))))
+      (λ i l l′. away (m + (length r - i)) (omega (arith, lm)) (omega (arith, lm)) (omega (arith, lm))) (λ i. mod-lt (m + (length r - i)) (omega (arith, lm))) turned
+    where
+      swapped : bw (length r - 1) ≡ fw 1
+      swapped = ap (λ a. a % length r) (let z : m + (length r - (length r - 1)) ≡ m + 1 = omega arith in z)
+
+      apart : Wrapped (length r) (m + 1) (fw 1) → Wrapped (length r) (m + (length r - 1)) (bw 1) → fw 1 ≢ bw 1
+      apart (inl x) (inl y) = omega (arith, lm)
+      apart (inl x) (inr y) = omega (arith, lm)
+      apart (inr x) (inl y) = omega (arith, lm)
+      apart (inr x) (inr y) = omega (arith, lm)
+
+      turned : getD r (bw 1) 0 < getD r (bw (length r - 1)) 0
+      turned = omega (
+        arith,
+        c,
+        ap (λ a. getD r a 0) swapped,
+        ne (fw 1) (bw 1) (mod-lt (m + 1) (omega (arith, lm))) (mod-lt (m + (length r - 1)) (omega (arith, lm)))
+            (apart (wrap (length r) (m + 1) (omega (arith, lm))) (wrap (length r) (m + (length r - 1)) (omega (arith, lm)))),
+      )
+
 -- at least one
 read : List ℕ → (ℕ → ℕ) → List ℕ
 read r q = map (λ i. getD r (q i) 0) (count (length r) 0)
 
 read-length : (r : List ℕ) (q : ℕ → ℕ) → length (read r q) ≡ length r
 unfolding read
-read-length r q = length-map (count (length r) 0) (λ i. getD r (q i) 0) ∙ length-count (length r) 0
+read-length r q = length-made (λ i. getD r (q i) 0) (length r)
 
 read-at : (r : List ℕ) (q : ℕ → ℕ) (i : ℕ) → i < length r → getD (read r q) i 0 ≡ getD r (q i) 0
 unfolding read
-read-at r q i l = getD-map (λ i. getD r (q i) 0) (count (length r) 0) i 0 0 (omega (arith, length-count (length r) 0)) ∙ ap (λ n. getD r (q n) 0) (getD-count (length r) 0 i 0 l ∙ omega arith)
+read-at r q i l = getD-made (λ i. getD r (q i) 0) (length r) i l
 
 pub writing-exists : (r : List ℕ) → 3 ≤ length r → ((i j : ℕ) → i < j → j < length r → getD r i 0 ≢ getD r j 0) → (s : List ℕ) × Reading 0 r s × OneWriting s
-writing-exists r h d = go (decLt (getD r (fw 1) 0) (getD r (fw (length r - 1)) 0))
+writing-exists r h d = go (decLt (getD r ((m + 1) % length r) 0) (getD r ((m + (length r - 1)) % length r) 0))
   where
-    k : ℕ
-    k = length r
-
     t : (m : ℕ) × (m < length r) × ((i : ℕ) → i < length r → getD r m 0 ≤ getD r i 0)
     t = least-place r (length r) (omega arith)
 
     m : ℕ
     m = t .0
-
-    lm : m < length r
-    lm = t .1
 
     fw : ℕ → ℕ
     fw i = (m + i) % length r
@@ -126,60 +181,17 @@ writing-exists r h d = go (decLt (getD r (fw 1) 0) (getD r (fw (length r - 1)) 0
     bw : ℕ → ℕ
     bw i = (m + (length r - i)) % length r
 
-    away : (a : ℕ) → a < length r + length r → a ≢ m → a ≢ m + length r → a % length r ≢ m
-    away a l x y = part (wrap (length r) a l)
-      where
-        part : Wrapped (length r) a (a % length r) → a % length r ≢ m
-        part (inl e) = omega arith
-        part (inr e) = omega arith
-
-    ne : (x y : ℕ) → x < length r → y < length r → x ≢ y → getD r x 0 ≢ getD r y 0
-    ne x y lx ly n = part (decLt x y)
-      where
-        part : Dec (x < y) → getD r x 0 ≢ getD r y 0
-        part (yes c) = d x y c ly
-        part (no c) = λ e. d y x (omega arith) lx (sym e)
-
-    ok : (q : ℕ → ℕ) → q 0 ≡ m → ((i : ℕ) → 0 < i → i < length r → q i ≢ m) → ((i : ℕ) → q i < length r) → getD r (q 1) 0 < getD r (q (length r - 1)) 0 → OneWriting (read r q)
-    ok q e f b c =
-        let n = read-length r q in
-        record {
-          smallest = λ i l l′.
-              omega (arith, read-at r q 0 (omega arith), read-at r q i (omega arith), ap (λ z. getD r z 0) e, t .2 (q i) (b i), ne (q i) m (b i) lm (f i l (omega arith)));
-          turn = rw n (omega (arith, read-at r q 1 (omega arith), read-at r q (length r - 1) (omega arith)));
-        }
-
-    go : Dec (getD r (fw 1) 0 < getD r (fw (length r - 1)) 0) → (s : List ℕ) × Reading 0 r s × OneWriting s
+    go : Dec (getD r ((m + 1) % length r) 0 < getD r ((m + (length r - 1)) % length r) 0) → (s : List ℕ) × Reading 0 r s × OneWriting s
     go (yes c) = (
       read r fw,
-      record { alike = read-length r fw; start = m; starts = lm; reads = inl (read-at r fw) },
-      ok fw (wrapped (length r) (m + 0) (fw 0) m (wrap (length r) (m + 0) (omega (arith, lm))) (inl (omega (arith, lm))))
-          (λ i l l′. away (m + i) (omega (arith, lm)) (omega (arith, lm)) (omega (arith, lm))) (λ i. mod-lt (m + i) (omega (arith, lm))) c,
+      record { alike = read-length r fw; start = m; starts = t .1; reads = inl (read-at r fw) },
+      onwards-written r h d m (t .1) (t .2) (read r fw) (read-length r fw) (read-at r fw) c,
     )
     go (no c) = (
       read r bw,
-      record { alike = read-length r bw; start = m; starts = lm; reads = inr (read-at r bw) },
-      ok bw (wrapped (length r) (m + (length r - 0)) (bw 0) m (wrap (length r) (m + (length r - 0)) (omega (arith, lm))) (inr (omega (arith, lm))))
-          (λ i l l′. away (m + (length r - i)) (omega (arith, lm)) (omega (arith, lm)) (omega (arith, lm))) (λ i. mod-lt (m + (length r - i)) (omega (arith, lm))) turned,
+      record { alike = read-length r bw; start = m; starts = t .1; reads = inr (read-at r bw) },
+      backwards-written r h d m (t .1) (t .2) (read r bw) (read-length r bw) (read-at r bw) c,
     )
-      where
-        swapped : bw (length r - 1) ≡ fw 1
-        swapped = ap (λ a. a % length r) (let z : m + (length r - (length r - 1)) ≡ m + 1 = omega arith in z)
-
-        apart : Wrapped (length r) (m + 1) (fw 1) → Wrapped (length r) (m + (length r - 1)) (bw 1) → fw 1 ≢ bw 1
-        apart (inl x) (inl y) = omega (arith, lm)
-        apart (inl x) (inr y) = omega (arith, lm)
-        apart (inr x) (inl y) = omega (arith, lm)
-        apart (inr x) (inr y) = omega (arith, lm)
-
-        turned : getD r (bw 1) 0 < getD r (bw (length r - 1)) 0
-        turned = omega (
-          arith,
-          c,
-          ap (λ a. getD r a 0) swapped,
-          ne (fw 1) (bw 1) (mod-lt (m + 1) (omega (arith, lm))) (mod-lt (m + (length r - 1)) (omega (arith, lm)))
-              (apart (wrap (length r) (m + 1) (omega (arith, lm))) (wrap (length r) (m + (length r - 1)) (omega (arith, lm)))),
-        )
 
 pub exactly-one-writing : (Bonded : ℕ → ℕ → Type 0) (r : List ℕ) → Ring Bonded 0 r
     → (s : List ℕ) × Reading 0 r s × OneWriting s × ((t : List ℕ) → Reading 0 r t → OneWriting t → t ≡ s)

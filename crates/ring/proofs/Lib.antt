@@ -1,0 +1,6 @@
+-- Laws of the candidate test.
+pub mod Firsts
+pub mod Readers
+pub mod CandidateVerdicts
+pub mod ShorterPairs
+pub mod Outcomes

@@ -1,0 +1,56 @@
+-- What comes of testing a candidate: the answer, the outcome, the 24 words, and the distance buffer before and after.
+--
+--   Values, values s            the outline's values for each case of the enum: yes or no, and a pair of places
+--   Shorter t r i j             the network distance of the atoms at i and j is shorter than their ring distance
+--   FirstPair Bad k i j         i < j < k is the first bad pair of places, by i and then j
+--   Says t r v words            yes: a shortest-path ring, and the words are its one writing;
+--                               no: the first pair that is shorter, and the words are zero
+--   CandidateOutcome            refused: not one byte is changed, all else is zero;
+--                               not refused: the buffer is the distance table, and what the values say
+use mathlib.Core.Path.{_≡_}
+use mathlib.Core.Logic.{_⊎_}
+use mathlib.Core.Bool.{Bool, true, false}
+use mathlib.Core.List.{List}
+use Prim.Native.Nat.{ℕ, _-_, _<_}
+use lib.ListN.{length, getD, replicate}
+use Rattle.graph.specs.Graph.{Distance, around, ShortestPathRing}
+use Rattle.network.specs.Network.{Bonded}
+use Rattle.distance.specs.Distances.{DistanceTable}
+use Rattle.ring.specs.declared.Shortest.{Shortest}
+use Rattle.ring.specs.declared.Shortest.the-variants.{Yes, No, Refused}
+use Rattle.ring.specs.declared.Tested.{Tested}
+use Rattle.ring.specs.Maxima.{ringMost}
+use Rattle.ring.specs.Writes.{Writes}
+use Rattle.ring.specs.CandidateVerdict.{candidateVerdict}
+
+pub record Values : Type 0 where
+  pub yes : Bool
+  pub first : ℕ
+  pub second : ℕ
+
+abbrev pub values : Shortest → Values
+values Yes = record { yes = true; first = 0; second = 0 }
+values (No i j) = record { yes = false; first = i; second = j }
+values Refused = record { yes = false; first = 0; second = 0 }
+
+pub record Shorter (t r : List ℕ) (i j : ℕ) : Type 0 where
+  pub bonds : ℕ
+  pub least : Distance (Bonded t) (getD r i 0) (getD r j 0) bonds
+  pub fewer : bonds < around (length r) (j - i)
+
+pub record FirstPair (Bad : ℕ → ℕ → Type 0) (k i j : ℕ) : Type 0 where
+  pub in-order : i < j
+  pub inside : j < k
+  pub bad : Bad i j
+  pub first : (x y : ℕ) → x < y → y < k → (x < i) ⊎ ((x ≡ i) × (y < j)) → Bad x y → ⊥
+
+abbrev pub Says : List ℕ → List ℕ → Values → List ℕ → Type 0
+Says t r v words =
+    ((v .yes ≡ true) × (v .first ≡ 0) × (v .second ≡ 0) × ShortestPathRing (Bonded t) 0 r × Writes r words)
+    ⊎ ((v .yes ≡ false) × FirstPair (Shorter t r) (length r) (v .first) (v .second) × (words ≡ replicate ringMost 0))
+
+pub record CandidateOutcome (n : ℕ) (t r before after : List ℕ) (c : Tested) : Type 0 where
+  pub answer : c .answer ≡ candidateVerdict n t r before
+  pub refused : (c .answer .code ≡ 0 → ⊥) → (after ≡ before) × (c .shortest ≡ Refused) × (c .writing ≡ replicate ringMost 0)
+  pub filled : c .answer .code ≡ 0 → DistanceTable n t after
+  pub says : c .answer .code ≡ 0 → Says t r (values (c .shortest)) (c .writing)

@@ -1,0 +1,43 @@
+-- A ring in the 24 words of the type `Ring`: its atoms, then zeros.
+--
+--   padded r                      the words of r, filled up with zeros
+--   notRing k                     k is not the length of a ring: 3 to 24
+--   lengthOf k                    k, or 0 where k is no such length
+--   atomsOf r                     the words of r, or zeros where r is too short or too long
+--   readFrom r start onwards      r read from a place on, round the ring, onwards or backwards
+--   Writes r words                the words are the one writing of r, filled up with zeros
+use mathlib.Core.Path.{_≡_}
+use mathlib.Core.Bool.{Bool, true, false, cond, not, _&&_}
+use mathlib.Core.List.{List, _++_, map}
+use Prim.Native.Nat.{ℕ, _+_, _-_, _%_}
+use lib.Dec.{leb}
+use lib.ListN.{length, getD, replicate}
+use Rattle.graph.specs.Lists.{count}
+use Rattle.graph.specs.Writing.{Reading, OneWriting}
+use Rattle.ring.specs.Maxima.{ringLeast, ringMost}
+
+abbrev pub padded : List ℕ → List ℕ
+padded r = r ++ replicate (ringMost - length r) 0
+
+abbrev pub notRing : ℕ → Bool
+notRing k = not (leb ringLeast k && leb k ringMost)
+
+unfoldable pub lengthOf : ℕ → ℕ
+lengthOf k = cond (notRing k) 0 k
+
+unfoldable pub atomsOf : List ℕ → List ℕ
+atomsOf r = cond (notRing (length r)) (replicate ringMost 0) (padded r)
+
+-- the place of a ring of k that is read i after the start
+unfoldable pub placeAt : ℕ → ℕ → Bool → ℕ → ℕ
+placeAt k start true i = (start + i) % k
+placeAt k start false i = (start + (k - i)) % k
+
+abbrev pub readFrom : List ℕ → ℕ → Bool → List ℕ
+readFrom r start onwards = map (λ i. getD r (placeAt (length r) start onwards i) 0) (count (length r) 0)
+
+pub record Writes (r words : List ℕ) : Type 0 where
+  pub writing : List ℕ
+  pub reading : Reading 0 r writing
+  pub one : OneWriting writing
+  pub filled : words ≡ padded writing
