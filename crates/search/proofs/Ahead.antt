@@ -7,17 +7,19 @@ use Prim.Native.Nat.{ℕ, zero, suc, _+_, _-_, _/_, _<_, _≤_}
 use native.Mathlib.Nat.{lt-suc-self, lt-trans}
 use native.Mathlib.Numerals.{add-one}
 use native.Mathlib.Omega.{arith}
-use borrow.Author.Tests.{lt-ltb, le-ltb, ltb-true, ltb-false, eq-eqb, ne-eqb}
 use lib.ListN.{length, getD, take, set, length-append, List·getD-append}
 use lib.Seq.{getD-append-seam}
 use lib.Dec.{eqb, ltb}
-use Rattle.search.specs.State.{PathIn}
+use borrow.Author.Tests.{lt-ltb, le-ltb, ltb-true, ltb-false, eq-eqb, ne-eqb}
 use Rattle.graph.specs.Graph.{around}
 use Rattle.distance.specs.Distances.{distance}
+use Rattle.ring.specs.Maxima.{ringMost}
+use Rattle.search.specs.State.{PathIn}
 use Rattle.search.specs.Search.{Test, allBelow, pairFits, fitsBefore, follows}
 use Rattle.search.specs.Turn.{reaches, seen, lookAhead, stood, Hint, Looks, NextAt}
-use Rattle.search.proofs.Laws.{any-found, any-none, look-past, look-is, grown-path}
-use Rattle.ring.specs.Maxima.{ringMost}
+use Rattle.search.proofs.Below.{any-found, any-none}
+use Rattle.search.proofs.Paths.{grown-path}
+use Rattle.search.proofs.Turns.{look-past, look-is}
 
 all-same : (f g : ℕ → Bool) (n : ℕ) → ((i : ℕ) → i < n → f i ≡ g i) → allBelow n f ≡ allBelow n g
 unfolding allBelow
@@ -86,7 +88,7 @@ pub hint-first : (n : ℕ) (dist : List ℕ) (k a : ℕ) → a < n → Hint n di
 unfolding stood
 hint-first n dist k a lt = record { above = omega arith; within = omega arith; barren = λ _ y l. rw (le-ltb a y (omega arith)) }
 
--- ---- the answers
+-- the answers
 
 pub looks-none : (b : Bool) (n : ℕ) (dist : List ℕ) (k : ℕ) (path : List ℕ) → false ≡ b → Looks b n dist k path 0
 looks-none b n dist k path h = record { no = λ _. sym h; yes = λ f. absurd (f refl) }
@@ -134,7 +136,7 @@ pub passed-more : (n : ℕ) (dist : List ℕ) (a w from y : ℕ) → ((z : ℕ) 
 passed-more n dist a w from y out h z ge lt e =
     ⊎-elim (λ l. out z ge l e) (λ g. let q : z ≡ y = omega arith in h (subst (λ (x : ℕ). distance dist n a x ≡ w) q e)) (lt-or-ge z y)
 
--- ---- words that hold the same path
+-- words that hold the same path
 
 pub hint-kept : {n : ℕ} {dist : List ℕ} {k from : ℕ} {p p′ : List ℕ} → p′ ≡ p → Hint n dist k p from → Hint n dist k p′ from
 hint-kept {n} {dist} {k} {from} e h = subst (λ (x : List ℕ). Hint n dist k x from) (sym e) h

@@ -5,16 +5,17 @@ use Prim.Native.Nat.{ℕ, zero, suc, _+_, _-_, _≤_}
 use native.Mathlib.Nat.{zero-add}
 use native.Mathlib.Omega.{arith}
 use native.Mathlib.Decide.{ℕ-discrete}
-use borrow.Author.Tests.{eq-eqb, ne-eqb}
 use lib.ListN.{length, getD, set, replicate, length-set, length-map}
 use lib.Seq.{ext-getD, getD-set-same, getD-set-other}
+use borrow.Author.Tests.{eq-eqb, ne-eqb}
 use Rattle.graph.specs.Lists.{_∈_, count}
 use Rattle.graph.proofs.Lists.{getD-map, length-count, getD-count}
 use Rattle.ring.specs.Maxima.{ringLeast, ringMost}
 use Rattle.search.specs.Census.{ofLength, countsOf}
 use Rattle.search.specs.Search.{gatherBelow, ringsOf, ringsUpTo, countsUpTo}
 use Rattle.search.specs.Turn.{mayFollow}
-use Rattle.search.proofs.Members.{gather-elim, listed-only}
+use Rattle.search.proofs.Below.{gather-elim}
+use Rattle.search.proofs.Members.{listed-only}
 
 module _ (k : ℕ) where
   of-here : (r : List ℕ) (xs : List (List ℕ)) → length r ≡ k → ofLength k (r ∷ xs) ≡ suc (ofLength k xs)

@@ -4,19 +4,19 @@ use mathlib.Core.Bool.{Bool, true, false, _&&_, _||_, cond, or-true}
 use mathlib.Core.List.{List, _∷_, _++_}
 use Prim.Native.Nat.{ℕ, _+_, _-_, _/_, _<_, _≤_}
 use native.Mathlib.Omega.{arith}
-use borrow.Author.Tests.{lt-ltb, ltb-true, ltb-false, eq-eqb, eqb-true}
 use lib.ListN.{length, getD, length-append, List·getD-append}
 use lib.Dec.{eqb, ltb}
+use borrow.Author.Tests.{lt-ltb, ltb-true, ltb-false, eq-eqb, eqb-true}
 use Rattle.graph.specs.Graph.{around}
 use Rattle.distance.specs.Distances.{distance}
+use Rattle.ring.specs.Maxima.{ringLeast}
 use Rattle.search.specs.Search.{pairFits, fitsBefore}
 use Rattle.search.specs.Turn.{anyBelow, antipodes, lastAbove, reaches, lookAhead, mayFollow}
 use Rattle.search.specs.Shortest.{Shortest, Harmless}
-use Rattle.search.proofs.Laws.{any-found}
-use Rattle.search.proofs.Members.{all-intro, at-last}
-use Rattle.ring.specs.Maxima.{ringLeast}
+use Rattle.search.proofs.Below.{any-found, all-intro}
+use Rattle.search.proofs.Members.{at-last}
 
--- ---- the test is harmless
+-- the test is harmless
 
 module _ (n : ℕ) (table dist : List ℕ) (k : ℕ) (least : ringLeast ≤ k) (r : List ℕ) (h : Shortest n table dist k r) (p : List ℕ) (a : ℕ) (s : List ℕ) (some : 0 < length p) (e : r ≡ p ++ (a ∷ s)) where
   long : length p < k

@@ -1,7 +1,11 @@
--- Laws of the search.
-pub mod Laws
+-- Laws of the search. Read Listed, OneOutcome and Passed; the rest serves them and the functions' proofs.
+pub mod Below
+pub mod Paths
+pub mod Rows
+pub mod Notes
+pub mod Turns
 pub mod Ahead
-pub mod Closed
+pub mod Noted
 pub mod Members
 pub mod Order
 pub mod Harmless

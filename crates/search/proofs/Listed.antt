@@ -18,7 +18,8 @@ use Rattle.ring.specs.Maxima.{ringLeast, ringMost}
 use Rattle.search.specs.Search.{ringsUpTo}
 use Rattle.search.specs.Turn.{mayFollow}
 use Rattle.search.specs.Shortest.{Shortest, RightAsFar}
-use Rattle.search.proofs.Members.{gather-intro, gather-elim, listed-all, listed-only}
+use Rattle.search.proofs.Below.{gather-intro, gather-elim}
+use Rattle.search.proofs.Members.{listed-all, listed-only}
 use Rattle.search.proofs.Order.{rows-of, all-asc}
 use Rattle.search.proofs.Harmless.{turn-harmless}
 

@@ -2,51 +2,20 @@
 use mathlib.Core.Path.{_≡_, refl, sym, ap, _∙_, subst}
 use mathlib.Core.Bool.{Bool, true, false, cond, and-eq-true-iff}
 use mathlib.Core.Logic.{_⊎_, ⊎-elim}
-use mathlib.Core.List.{List, [], _∷_, _++_, append-nil, List·Memᴰ, List·Memᴰ·head, List·Memᴰ·append-cases, List·Memᴰ·not-nil, List·Memᴰ·eq-of-singleton, Memᴰ·append-left, Memᴰ·append-right}
+use mathlib.Core.List.{List, [], _∷_, _++_, append-nil, List·Memᴰ, List·Memᴰ·head, List·Memᴰ·not-nil, List·Memᴰ·eq-of-singleton}
 use Prim.Native.Nat.{ℕ, zero, suc, _+_, _-_, _*_, _<_}
-use native.Mathlib.Nat.{not-suc-le-zero, le-of-suc-le-suc, eq-or-lt-of-le, lt-suc-self, lt-trans}
+use native.Mathlib.Nat.{le-of-suc-le-suc, eq-or-lt-of-le}
 use native.Mathlib.Numerals.{add-one}
 use native.Mathlib.Omega.{arith}
-use borrow.Author.Tests.{lt-ltb, ltb-true, eq-eqb, eqb-true}
 use lib.ListN.{length, getD, length-append, List·getD-append}
 use lib.Seq.{getD-append-seam, append-snoc}
-use Rattle.search.specs.Search.{Test, Tests, allBelow, gatherBelow, pairFits, fitsBefore, everyPair, isRing, follows, placeOf, goesOn, ended, extend, ringsFrom, ringsOf}
-use Rattle.search.specs.Shortest.{Chain, Shortest, Harmless}
+use borrow.Author.Tests.{lt-ltb, ltb-true, eq-eqb, eqb-true}
 use Rattle.network.specs.Maxima.{places}
+use Rattle.search.specs.Search.{Test, Tests, pairFits, fitsBefore, everyPair, isRing, follows, placeOf, goesOn, ended, extend, ringsFrom, ringsOf}
+use Rattle.search.specs.Shortest.{Chain, Shortest, Harmless}
+use Rattle.search.proofs.Below.{all-intro, all-elim, gather-intro, gather-elim}
 
--- ---- tests on all, and lists put together
-
-pub all-intro : (f : ℕ → Bool) (n : ℕ) → ((i : ℕ) → i < n → f i ≡ true) → allBelow n f ≡ true
-unfolding allBelow
-all-intro f zero h = refl
-all-intro f (suc n) h = rw (all-intro f n (λ i lt. h i (lt-trans lt (lt-suc-self n))), h n (lt-suc-self n))
-
-all-elim : (f : ℕ → Bool) (n : ℕ) → allBelow n f ≡ true → (i : ℕ) → i < n → f i ≡ true
-unfolding allBelow
-all-elim f zero e i lt = absurd (not-suc-le-zero lt)
-all-elim f (suc n) e i lt =
-    let b = and-eq-true-iff (allBelow n f) (f n) .0 e in
-    ⊎-elim (λ q. rw q (b .1)) (λ l. all-elim f n (b .0) i l) (eq-or-lt-of-le (le-of-suc-le-suc lt))
-
-pub gather-intro : (f : ℕ → List (List ℕ)) (n j : ℕ) {r : List ℕ} → j < n → List·Memᴰ r (f j) → List·Memᴰ r (gatherBelow n f)
-unfolding gatherBelow
-gather-intro f zero j lt m = absurd (not-suc-le-zero lt)
-gather-intro f (suc n) j {r} lt m =
-    ⊎-elim
-    (λ q. Memᴰ·append-right (gatherBelow n f) (subst (λ (x : ℕ). List·Memᴰ r (f x)) q m))
-    (λ l. Memᴰ·append-left (f n) (gather-intro f n j l m))
-    (eq-or-lt-of-le (le-of-suc-le-suc lt))
-
-pub gather-elim : (f : ℕ → List (List ℕ)) (n : ℕ) {r : List ℕ} → List·Memᴰ r (gatherBelow n f) → (j : ℕ) × (j < n) × List·Memᴰ r (f j)
-unfolding gatherBelow
-gather-elim f zero m = absurd (List·Memᴰ·not-nil m)
-gather-elim f (suc n) {r} m =
-    ⊎-elim
-    (λ l. let g = gather-elim f n l in (g .0, lt-trans (g .1) (lt-suc-self n), g .2))
-    (λ l. (n, lt-suc-self n, l))
-    (List·Memᴰ·append-cases (gatherBelow n f) m)
-
--- ---- a place of a path, and of the path with more
+-- a place of a path, and of the path with more
 
 pub at-last : (p : List ℕ) (a : ℕ) (s : List ℕ) → getD (p ++ (a ∷ s)) (length p) 0 ≡ a
 at-last p a s = getD-append-seam p a s 0
@@ -69,7 +38,7 @@ module _ (n : ℕ) (table dist : List ℕ) (k : ℕ) where
         sense = ltb-true _ _ (b .0);
       }
 
-  -- ---- each shortest-path ring is listed, whatever harmless test turns back
+  -- each shortest-path ring is listed, whatever harmless test turns back
 
   module _ (may : Test) (harmless : Harmless n table dist k may) (r : List ℕ) (h : Shortest n table dist k r) where
     before : (p s : List ℕ) → r ≡ p ++ s → (i : ℕ) → i < length p → getD r i 0 ≡ getD p i 0
@@ -110,7 +79,7 @@ module _ (n : ℕ) (table dist : List ℕ) (k : ℕ) where
         (rw (goes p a s some e (b .0) (b .2), b .2)
         (listed-from (p ++ (a ∷ [])) s (rw length-append (omega arith)) (e ∙ sym (append-snoc p a s))))
 
--- ---- what is listed is a shortest-path ring
+-- what is listed is a shortest-path ring
 
 pub chain-more : (n : ℕ) (table : List ℕ) (p : List ℕ) (a j : ℕ) → 0 < length p → Chain n table p → j < places → placeOf table p j ≡ a → a < n → getD p 0 0 < a → Chain n table (p ++ (a ∷ []))
 chain-more n table p a j some w lt q small first = record { atoms = atoms; bonded = bonded; least = least }

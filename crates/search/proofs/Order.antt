@@ -6,9 +6,9 @@ use mathlib.Core.List.{List, [], _∷_, _++_, append-nil, List·Memᴰ·head, Li
 use Prim.Native.Nat.{ℕ, zero, suc, _+_, _-_, _<_}
 use native.Mathlib.Nat.{lt-suc-self, lt-trans}
 use native.Mathlib.Omega.{arith}
-use borrow.Author.Tests.{ltb-true}
 use lib.ListN.{length, getD, length-append}
 use lib.Seq.{append-snoc}
+use borrow.Author.Tests.{ltb-true}
 use Rattle.graph.specs.Lists.{_∈_, Ascending}
 use Rattle.graph.specs.Listing.{Lex, Before}
 use Rattle.graph.proofs.Lists.{append-ascending}
@@ -16,7 +16,8 @@ use Rattle.network.specs.Maxima.{places}
 use Rattle.network.specs.Network.{word, IsNetwork}
 use Rattle.ring.specs.Maxima.{ringLeast}
 use Rattle.search.specs.Search.{Test, Tests, gatherBelow, isRing, placeOf, goesOn, ended, extend, ringsFrom, ringsOf, ringsUpTo}
-use Rattle.search.proofs.Members.{gather-elim, at-last, listed-only}
+use Rattle.search.proofs.Below.{gather-elim}
+use Rattle.search.proofs.Members.{at-last, listed-only}
 
 less-at : (p : List ℕ) {a b : ℕ} (s t : List ℕ) → a < b → Lex _<_ (p ++ (a ∷ s)) (p ++ (b ∷ t))
 less-at [] s t h = inl h

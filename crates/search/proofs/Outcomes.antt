@@ -4,13 +4,13 @@ use mathlib.Core.Bool.{true, false}
 use mathlib.Core.List.{List, [], _∷_}
 use Prim.Native.Nat.{ℕ, _+_, _-_, _/_, _≤_, _<_}
 use native.Mathlib.Omega.{arith}
-use borrow.Author.Tests.{lt-ltb, le-ltb}
 use lib.ListN.{length, length-append}
 use lib.Seq.{sets}
+use borrow.Author.Tests.{lt-ltb, le-ltb}
 use Rattle.graph.specs.Listing.{RingListing}
 use Rattle.graph.proofs.Listings.{ring-listing-unique}
 use Rattle.network.specs.declared.Answer.{Answer}
-use Rattle.network.specs.Network.{Bonded}
+use Rattle.network.specs.Network.{Bonded, word}
 use Rattle.network.specs.Verdict.{refusal}
 use Rattle.ring.specs.Maxima.{ringLeast, ringMost, allowanceMost}
 use Rattle.search.specs.declared.Census.{Census}
@@ -23,8 +23,7 @@ use Rattle.search.specs.State.{encode, Fits, Net, Tallied}
 use Rattle.search.proofs.Passed.{Passed, reached-exactly}
 use Rattle.search.proofs.Listed.{right-as-far, the-listing}
 use Rattle.search.proofs.Counts.{counts-all}
-use Rattle.search.proofs.Closed.{too-many, not-many, total, needed, holds}
-use Rattle.network.specs.Network.{word}
+use Rattle.search.proofs.Noted.{too-many, not-many, total, needed, holds}
 
 abbrev code : Answer → ℕ
 code a = a .code

@@ -12,14 +12,14 @@ use Rattle.network.specs.declared.Answer.{Answer}
 use Rattle.network.specs.Network.{Counted, IsNetwork}
 use Rattle.network.specs.Verdict.{check, refusal, atomsOf, notAtoms}
 use Rattle.network.proofs.Verdicts.{atoms, no-atoms, some-atoms}
-use Rattle.distance.specs.Outcome as distance
 use Rattle.distance.specs.Outcome.{distanceVerdict}
 use Rattle.distance.proofs.Outcomes.{accepted-exactly}
+use Rattle.distance.specs.Outcome as distance
 use Rattle.ring.specs.Maxima.{ringLeast, ringMost, limitDefault, allowanceMost}
 use Rattle.search.specs.Census.{limitOf, notLimit, notAllowance, beforeSearch}
 use Rattle.search.specs.Prepared.{Prepared}
 
--- ---- the limit and the allowance
+-- the limit and the allowance
 
 pub limit-default : (limit : ℕ) → limit ≡ 0 → limitDefault ≡ limitOf limit
 unfolding limitOf
@@ -63,7 +63,7 @@ allowance-high allowance l = let k : 1 ≤ allowance = omega arith in simp (le-l
 allowance-right : (allowance : ℕ) → 1 ≤ allowance → allowance ≤ allowanceMost → notAllowance allowance ≡ false
 allowance-right allowance l m = simp (le-leb _ _ l, le-leb _ _ m)
 
--- ---- each way through the checks
+-- each way through the checks
 
 abbrev code : Answer → ℕ
 code a = a .code
@@ -117,7 +117,7 @@ module _ (n : ℕ) (t : List ℕ) (limit allowance : ℕ) (d : List ℕ) where
             filled = o .filled;
           }
 
--- ---- what passing the checks says
+-- what passing the checks says
 
 pub record Passed (n : ℕ) (t : List ℕ) (limit allowance : ℕ) (d : List ℕ) : Type 0 where
   pub network : IsNetwork n t

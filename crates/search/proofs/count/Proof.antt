@@ -1,8 +1,8 @@
-use native.Mathlib.Omega.{arith}
 use Prim.Native.Nat.{_≤_}
+use native.Mathlib.Omega.{arith}
+use borrow.Author.Needs.{needs}
 use Rattle.ring.specs.Maxima.{allowanceMost}
 use Rattle.search.proofs.Outcomes.{out-refused, passed, net, sums, count-0, count-12}
-use borrow.Author.Needs.{needs}
 use Rattle.search.proofs.count.Statement.{statement}
 use Rattle.search.proofs.count.Tie as tie
 

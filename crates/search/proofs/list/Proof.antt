@@ -1,8 +1,8 @@
-use native.Mathlib.Omega.{arith}
 use Prim.Native.Nat.{_≤_}
+use native.Mathlib.Omega.{arith}
+use borrow.Author.Needs.{needs}
 use Rattle.ring.specs.Maxima.{allowanceMost}
 use Rattle.search.proofs.Outcomes.{list-refused, passed, net, sums-2, list-0, list-12, list-13}
-use borrow.Author.Needs.{needs}
 use Rattle.search.proofs.list.Statement.{statement}
 use Rattle.search.proofs.list.Tie as tie
 

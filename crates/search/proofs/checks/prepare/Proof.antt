@@ -1,5 +1,5 @@
-use Rattle.search.proofs.Passed.{prepared-1, prepared-2-low, prepared-2-high, prepared-3-low, prepared-3-high, prepared-rest}
 use borrow.Author.Needs.{needs}
+use Rattle.search.proofs.Passed.{prepared-1, prepared-2-low, prepared-2-high, prepared-3-low, prepared-3-high, prepared-rest}
 use Rattle.search.proofs.checks.prepare.Statement.{statement}
 use Rattle.search.proofs.checks.prepare.Tie as tie
 

@@ -1,18 +1,22 @@
-use Rattle.search.proofs.Ahead.{hint-kept, hint-grown, looks-kept}
-use Rattle.search.proofs.Laws.{all-over, turn-no, turn-yes, extend-some, whole-result, given-of, given-whole, given-kept, grows-kept, grows-on, grown-kept, grown-path, in-row, ends-of, row-done, goes-is}
-use Rattle.search.specs.State.{state, noteAll, Fits}
-use Rattle.search.specs.Turn.{mayFollow}
-use Rattle.search.specs.Search.{gatherBelow, branch}
-use lib.ListN.{length, take, length-set}
-use borrow.Author.Needs.{needs}
-use native.Mathlib.Omega.{arith}
-use Prim.Native.Nat.{_+_, _-_, _≤_}
 use mathlib.Core.Bool.{true, false}
 use mathlib.Core.Logic.{⊎-elim}
 use mathlib.Core.Path.{_≡_, refl, sym, ap, _∙_}
-use Prim.Native.Nat.{ℕ, _<_}
+use Prim.Native.Nat.{_+_, _-_, _≤_, ℕ, _<_}
+use native.Mathlib.Omega.{arith}
+use lib.ListN.{length, take, length-set}
+use borrow.Author.Needs.{needs}
 use borrow.Fn.Kinds.{In}
 use borrow.Fn.PlainCycle.{Measures, is, falls, and}
+use Rattle.network.specs.Maxima.{places}
+use Rattle.search.specs.State.{state, noteAll, Fits}
+use Rattle.search.specs.Turn.{mayFollow}
+use Rattle.search.specs.Search.{gatherBelow, branch}
+use Rattle.search.proofs.Ahead.{hint-kept, hint-grown, looks-kept}
+use Rattle.search.proofs.Paths.{given-of, given-whole, given-kept, grows-kept, grows-on, grown-kept, grown-path}
+use Rattle.search.proofs.Rows.{turn-no, turn-yes, extend-some, whole-result, in-row, ends-of, row-done, goes-is}
+use Rattle.search.proofs.Notes.{all-over}
+use Rattle.search.proofs.grow.+grow.{statement}
+use Rattle.search.proofs.grow.+grow.Tie.{close}
 use Rattle.search.proofs.grow.grow.Reads as grow
 use Rattle.search.proofs.grow.grow.Kinds as grow-kinds
 use Rattle.search.proofs.grow.+grow.Lts-grow as grow-lts
@@ -21,9 +25,6 @@ use Rattle.search.proofs.note.complete.Reads as complete-reads
 use Rattle.search.proofs.turn.may_follow.Reads as may-follow-reads
 use Rattle.search.proofs.grow.place_at.Reads as place-at-reads
 use Rattle.search.proofs.pairs.wide.Reads as wide-reads
-use Rattle.search.proofs.grow.+grow.{statement}
-use Rattle.search.proofs.grow.+grow.Tie.{close}
-use Rattle.network.specs.Maxima.{places}
 
 abbrev μ-grow : Measures 4 grow-kinds.ps ℕ
 μ-grow κs a = a .1 .1 .1 .1 .1 .0

@@ -6,12 +6,11 @@ use native.Mathlib.Omega.{arith}
 use lib.ListN.{length}
 use Rattle.search.specs.Search.{gatherBelow, ringsUpTo, countsUpTo}
 use Rattle.search.specs.Turn.{mayFollow}
-use Rattle.search.specs.State.{state, noteAll, none}
-use Rattle.search.proofs.Laws.{turn, turned}
-use Rattle.search.proofs.Closed.{rings-grew, counts-turn}
+use Rattle.search.specs.State.{state, noteAll, none, Fits}
+use Rattle.search.proofs.Notes.{turn, turned}
+use Rattle.search.proofs.Noted.{rings-grew, counts-turn}
 use Rattle.search.proofs.grow.each_length.Statement.{statement}
 use Rattle.search.proofs.grow.each_length.Tie as tie
-use Rattle.search.specs.State.{Fits}
 
 abbrev Inv-loop : tie.InvT-loop
 Inv-loop n table dist limit allowance list₀ found₀ counts₀ many j₀ list found counts j =

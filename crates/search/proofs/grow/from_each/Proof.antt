@@ -1,17 +1,17 @@
-use Rattle.search.proofs.Ahead.{hint-kept, hint-first}
-use Rattle.search.proofs.Laws.{turn, turned, first-take, first-path}
-use Rattle.search.specs.State.{state, noteAll}
-use Rattle.search.specs.Turn.{mayFollow}
-use Rattle.search.specs.Search.{gatherBelow, ringsFrom, ringsOf}
+use mathlib.Core.Path.{_≡_, refl, _∙_}
+use Prim.Native.Nat.{_-_, _≤_, zero-le}
+use native.Mathlib.Omega.{arith}
 use lib.ListN.{length, length-set}
 use borrow.Author.Needs.{needs}
-use native.Mathlib.Omega.{arith}
-use Prim.Native.Nat.{_-_, _≤_, zero-le}
-use mathlib.Core.Path.{_≡_, refl, _∙_}
+use Rattle.ring.specs.Maxima.{ringMost}
+use Rattle.search.specs.State.{state, noteAll, Fits}
+use Rattle.search.specs.Turn.{mayFollow}
+use Rattle.search.specs.Search.{gatherBelow, ringsFrom, ringsOf}
+use Rattle.search.proofs.Ahead.{hint-kept, hint-first}
+use Rattle.search.proofs.Paths.{first-take, first-path}
+use Rattle.search.proofs.Notes.{turn, turned}
 use Rattle.search.proofs.grow.from_each.Statement.{statement}
 use Rattle.search.proofs.grow.from_each.Tie as tie
-use Rattle.ring.specs.Maxima.{ringMost}
-use Rattle.search.specs.State.{Fits}
 
 abbrev Inv-loop : tie.InvT-loop
 Inv-loop n table dist k allowance list₀ path₀ f₀ a₀ list path f a = (a ≤ n) × ((length list ≡ length list₀) × ((state f list ≡ noteAll allowance (gatherBelow a (ringsFrom mayFollow n table dist k)) (state f₀ list₀)) × (Fits f × (length path ≡ ringMost))))

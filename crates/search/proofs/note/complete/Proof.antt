@@ -1,6 +1,6 @@
-use Rattle.search.proofs.Laws.{ended-yes, ended-no}
 use mathlib.Core.Path.{sym, _∙_}
 use borrow.Author.Needs.{needs}
+use Rattle.search.proofs.Notes.{ended-yes, ended-no}
 use Rattle.search.proofs.note.complete.Statement.{statement}
 use Rattle.search.proofs.note.complete.Tie as tie
 

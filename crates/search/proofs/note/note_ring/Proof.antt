@@ -1,9 +1,9 @@
-use Rattle.search.proofs.Laws.{note-over, note-full, note-fits, note-skips, one-ring}
+use mathlib.Core.Path.{_≡_}
+use native.Mathlib.Omega.{arith}
 use lib.Seq.{length-take-le}
 use lib.ListN.{length, take}
-use native.Mathlib.Omega.{arith}
-use mathlib.Core.Path.{_≡_}
 use borrow.Author.Needs.{needs}
+use Rattle.search.proofs.Notes.{note-over, note-full, note-fits, note-skips, one-ring}
 use Rattle.search.proofs.note.note_ring.Statement.{statement}
 use Rattle.search.proofs.note.note_ring.Tie as tie
 

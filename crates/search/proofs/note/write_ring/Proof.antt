@@ -2,13 +2,13 @@ use mathlib.Core.Path.{_≡_, refl, _∙_}
 use Prim.Native.Nat.{_≤_, _<_, _+_, _-_, zero-le}
 use native.Mathlib.Omega.{arith}
 use native.Mathlib.Numerals.{add-one}
-use borrow.Author.Needs.{needs}
 use lib.ListN.{length, length-set, set}
 use lib.Seq.{paste, paste-zero, paste-suc}
-use Rattle.search.proofs.Laws.{pasted-after}
+use borrow.Author.Needs.{needs}
+use Rattle.ring.specs.Maxima.{ringMost}
+use Rattle.search.proofs.Notes.{pasted-after}
 use Rattle.search.proofs.note.write_ring.Statement.{statement}
 use Rattle.search.proofs.note.write_ring.Tie as tie
-use Rattle.ring.specs.Maxima.{ringMost}
 
 abbrev Inv-loop : tie.InvT-loop
 Inv-loop path len at list₀ i₀ list i = (i ≤ len) × ((list ≡ paste list₀ (at + 1) path i) × (length list ≡ length list₀))

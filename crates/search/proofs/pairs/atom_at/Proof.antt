@@ -1,5 +1,5 @@
-use lib.Seq.{getD-take}
 use mathlib.Core.Path.{sym, _∙_}
+use lib.Seq.{getD-take}
 use borrow.Author.Needs.{needs}
 use Rattle.search.proofs.pairs.atom_at.Statement.{statement}
 use Rattle.search.proofs.pairs.atom_at.Tie as tie

@@ -1,11 +1,11 @@
-use Rattle.search.specs.Search.{fitsBefore, everyPair, allBelow}
-use lib.ListN.{take, getD}
-use borrow.Author.Tests.{not-true, not-false}
-use Rattle.search.proofs.Laws.{all-more, all-fails, all-done}
-use native.Mathlib.Omega.{arith}
-use Prim.Native.Nat.{_≤_, _-_}
 use mathlib.Core.Bool.{true}
 use mathlib.Core.Path.{_≡_, refl, sym, _∙_}
+use Prim.Native.Nat.{_≤_, _-_}
+use native.Mathlib.Omega.{arith}
+use lib.ListN.{take, getD}
+use borrow.Author.Tests.{not-true, not-false}
+use Rattle.search.specs.Search.{fitsBefore, everyPair, allBelow}
+use Rattle.search.proofs.Below.{all-more, all-fails, all-done}
 use Rattle.search.proofs.pairs.every_pair.Statement.{statement}
 use Rattle.search.proofs.pairs.every_pair.Tie as tie
 

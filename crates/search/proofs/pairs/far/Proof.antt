@@ -1,7 +1,7 @@
-use borrow.Author.Needs.{needs}
-use native.Mathlib.Omega.{arith}
 use Prim.Native.Nat.{_*_, _+_}
-use Rattle.search.proofs.Laws.{cell}
+use native.Mathlib.Omega.{arith}
+use borrow.Author.Needs.{needs}
+use Rattle.search.proofs.Paths.{cell}
 use Rattle.search.proofs.pairs.far.Statement.{statement}
 use Rattle.search.proofs.pairs.far.Tie as tie
 

@@ -1,12 +1,12 @@
-use Rattle.search.specs.Search.{pairFits, fitsBefore, allBelow}
-use lib.ListN.{take}
-use borrow.Author.Tests.{not-true, not-false}
-use Rattle.search.proofs.Laws.{all-more, all-fails, all-done}
-use borrow.Author.Needs.{needs}
-use native.Mathlib.Omega.{arith}
-use Prim.Native.Nat.{_≤_, _-_}
 use mathlib.Core.Bool.{true}
 use mathlib.Core.Path.{_≡_, refl, sym, _∙_}
+use Prim.Native.Nat.{_≤_, _-_}
+use native.Mathlib.Omega.{arith}
+use lib.ListN.{take}
+use borrow.Author.Tests.{not-true, not-false}
+use borrow.Author.Needs.{needs}
+use Rattle.search.specs.Search.{pairFits, fitsBefore, allBelow}
+use Rattle.search.proofs.Below.{all-more, all-fails, all-done}
 use Rattle.search.proofs.pairs.fits_before.Statement.{statement}
 use Rattle.search.proofs.pairs.fits_before.Tie as tie
 

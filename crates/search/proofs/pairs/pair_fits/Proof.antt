@@ -1,5 +1,5 @@
-use Rattle.search.specs.Search.{pairFits}
 use borrow.Author.Needs.{needs}
+use Rattle.search.specs.Search.{pairFits}
 use Rattle.search.proofs.pairs.pair_fits.Statement.{statement}
 use Rattle.search.proofs.pairs.pair_fits.Tie as tie
 

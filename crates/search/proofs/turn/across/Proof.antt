@@ -1,7 +1,8 @@
-use Rattle.search.proofs.Laws.{path-long, across-past, across-no, across-even, across-odd}
-use borrow.Author.Tests.{not-true, not-false}
 use mathlib.Core.Path.{sym, _∙_}
+use borrow.Author.Tests.{not-true, not-false}
 use borrow.Author.Needs.{needs}
+use Rattle.search.proofs.Paths.{path-long}
+use Rattle.search.proofs.Turns.{across-past, across-no, across-even, across-odd}
 use Rattle.search.proofs.turn.across.Statement.{statement}
 use Rattle.search.proofs.turn.across.Tie as tie
 

@@ -1,6 +1,7 @@
 use mathlib.Core.List.{[]}
-use Rattle.search.proofs.Laws.{path-long, last-yes, last-no}
 use borrow.Author.Needs.{needs}
+use Rattle.search.proofs.Paths.{path-long}
+use Rattle.search.proofs.Turns.{last-yes, last-no}
 use Rattle.search.proofs.turn.closes.Statement.{statement}
 use Rattle.search.proofs.turn.closes.Tie as tie
 

@@ -1,14 +1,14 @@
-use Rattle.search.proofs.Ahead.{looks-past, looks-yes, looks-no, seen-start, seen-next, seen-on}
-use Rattle.search.proofs.Laws.{path-long}
-use Rattle.search.specs.Turn.{seen}
-use Rattle.distance.specs.Distances.{distance}
-use borrow.Author.Needs.{needs}
-use lib.ListN.{take}
-use native.Mathlib.Omega.{arith}
-use native.Mathlib.Nat.{le-refl}
-use Prim.Native.Nat.{ℕ, _≤_, _<_, _-_, _+_}
 use mathlib.Core.Bool.{false}
 use mathlib.Core.Path.{_≡_, sym, _∙_}
+use Prim.Native.Nat.{ℕ, _≤_, _<_, _-_, _+_}
+use native.Mathlib.Omega.{arith}
+use native.Mathlib.Nat.{le-refl}
+use lib.ListN.{take}
+use borrow.Author.Needs.{needs}
+use Rattle.distance.specs.Distances.{distance}
+use Rattle.search.specs.Turn.{seen}
+use Rattle.search.proofs.Ahead.{looks-past, looks-yes, looks-no, seen-start, seen-next, seen-on}
+use Rattle.search.proofs.Paths.{path-long}
 use Rattle.search.proofs.turn.look_ahead.Statement.{statement}
 use Rattle.search.proofs.turn.look_ahead.Tie as tie
 

@@ -1,9 +1,9 @@
-use mathlib.Core.Path.{refl}
-use Rattle.search.proofs.Ahead.{looks-none, looks-same}
-use Rattle.search.proofs.Laws.{path-long, may-low, may-1, may-2, may-3, may-4}
+use mathlib.Core.Path.{refl, sym, _∙_}
 use borrow.Author.Tests.{not-true, not-false}
-use mathlib.Core.Path.{sym, _∙_}
 use borrow.Author.Needs.{needs}
+use Rattle.search.proofs.Ahead.{looks-none, looks-same}
+use Rattle.search.proofs.Paths.{path-long}
+use Rattle.search.proofs.Turns.{may-low, may-1, may-2, may-3, may-4}
 use Rattle.search.proofs.turn.may_follow.Statement.{statement}
 use Rattle.search.proofs.turn.may_follow.Tie as tie
 

@@ -1,9 +1,9 @@
-use Rattle.search.proofs.Ahead.{passed-more}
-use Rattle.distance.specs.Distances.{distance}
+use mathlib.Core.Path.{_≡_, sym, _∙_}
+use Prim.Native.Nat.{ℕ, _≤_, _<_, _-_}
 use native.Mathlib.Omega.{arith}
 use native.Mathlib.Nat.{le-refl}
-use Prim.Native.Nat.{ℕ, _≤_, _<_, _-_}
-use mathlib.Core.Path.{_≡_, sym, _∙_}
+use Rattle.distance.specs.Distances.{distance}
+use Rattle.search.proofs.Ahead.{passed-more}
 use Rattle.search.proofs.turn.next_at.Statement.{statement}
 use Rattle.search.proofs.turn.next_at.Tie as tie
 

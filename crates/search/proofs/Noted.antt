@@ -6,15 +6,15 @@ use Prim.Native.Nat.{ℕ, suc, _+_, _-_, _<_, _≤_, zero-le}
 use native.Mathlib.Nat.{add-zero, zero-add, le-refl, le-trans}
 use native.Mathlib.Numerals.{add-one}
 use native.Mathlib.Omega.{arith}
-use borrow.Author.Tests.{ltb-true, ltb-false}
 use lib.ListN.{length, set, length-append}
 use lib.Seq.{sets, length-sets}
 use lib.Dec.{ltb}
+use borrow.Author.Tests.{ltb-true, ltb-false}
+use Rattle.ring.specs.Maxima.{ringLeast}
 use Rattle.search.specs.State.{State, state, note, wrote, noteAll, encode, none}
 use Rattle.search.specs.Search.{Tests, ringsOf, countsUpTo}
 use Rattle.search.specs.declared.note.Found.{Found}
-use Rattle.search.proofs.Laws.{note-fits}
-use Rattle.ring.specs.Maxima.{ringLeast}
+use Rattle.search.proofs.Notes.{note-fits}
 
 -- what noting one ring does to the count: a case for each of its three tests
 data Noted (a : ℕ) (x : List ℕ) (s s′ : State) : Type 0 where
@@ -107,7 +107,7 @@ past-allowance a xs s le lt = go (noteAll a xs s .found .over) refl
     go true e = e
     go false e = absurd (omega (arith, count a xs s e, rings-within a xs s le))
 
--- ---- the list
+-- the list
 
 pub sets-append : (l : List ℕ) (at : ℕ) (xs ys : List ℕ) → sets l at (xs ++ ys) ≡ sets (sets l at xs) (at + length xs) ys
 sets-append l at [] ys = rw add-zero
@@ -145,7 +145,7 @@ counts-turn may n table dist a j s s′ counts e inv o =
     let d : s′ .found .rings - s .found .rings ≡ length xs = rw e (let q = count a xs s o′ in omega arith) in
     rw (add-one j, d, inv (over-back a xs s o′))
 
--- ---- from nothing
+-- from nothing
 
 module _ (a : ℕ) (xs : List (List ℕ)) (l : List ℕ) (r : Found) (l′ : List ℕ) (e : state r l′ ≡ noteAll a xs (state none l)) where
   -- more rings than the allowance
