@@ -1,7 +1,7 @@
 -- A renaming carries the listing: the rings of the other network are the renamed rings, each in its one writing, and as many of each length.
-use mathlib.Core.Path.{_≡_, refl, sym, _∙_, ap, subst}
+use mathlib.Core.Path.{_≡_, sym, _∙_, ap, subst}
 use mathlib.Core.Logic.{_≢_, _↔_}
-use mathlib.Core.List.{List, [], _∷_, map}
+use mathlib.Core.List.{List, [], map}
 use Prim.Native.Nat.{ℕ, suc, _≤_, _<_}
 use native.Mathlib.Decide.{decLt}
 use native.Mathlib.Omega.{arith}
@@ -9,7 +9,7 @@ use lib.Dec.{T, eqb, eqb→eq, eqb-refl}
 use lib.ListN.{length, getD, length-map}
 use lib.Seq.{ext-getD}
 use Rattle.graph.specs.Lists.{_∈_, Ascending, keep}
-use Rattle.graph.specs.Graph.{Ring, ShortestPathRing}
+use Rattle.graph.specs.Graph.{Ring}
 use Rattle.graph.specs.Writing.{Reading, OneWriting}
 use Rattle.graph.specs.Listing.{Before, Listed, RingListing}
 use Rattle.graph.specs.Counts.{ofLength, sumOf}

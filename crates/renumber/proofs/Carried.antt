@@ -1,20 +1,20 @@
 -- A renumbering carries the listing of a network's rings to that of the renumbered network.
 use mathlib.Core.Path.{_≡_, sym, _∙_, ap, subst₂}
 use mathlib.Core.List.{List, map}
-use Prim.Native.Nat.{ℕ, suc, _*_, _<_}
+use Prim.Native.Nat.{ℕ, suc}
 use native.Mathlib.Omega.{arith}
 use lib.ListN.{length-map}
+use Rattle.graph.specs.Graph.{ShortestPathRing}
 use Rattle.graph.specs.Listing.{RingListing}
 use Rattle.graph.proofs.Writings.{writing-unique}
-use Rattle.graph.proofs.Renamings.{Renaming}
+use Rattle.graph.proofs.Renamings.{Renaming, ring-there}
 use Rattle.graph.proofs.Carried.{carried-exactly, carried-to-one, carried-once, same-counts, same-sum, same-total}
 use Rattle.network.specs.declared.Answer.{Answer}
-use Rattle.network.specs.Maxima.{places}
 use Rattle.network.specs.Network.{Bonded, IsNetwork}
 use Rattle.network.proofs.Bonds.{bonded-from, bonded-to, bonded-back}
 use Rattle.renumber.specs.Names.{name, OneToOne}
 use Rattle.renumber.specs.Outcome.{Renumbered, Outcome}
-use Rattle.renumber.specs.Carried.{WritingOf, CarriedTo, homeNames}
+use Rattle.renumber.specs.Carried.{CarriedTo, homeNames}
 use Rattle.renumber.proofs.Outcomes.{accepts}
 use Rattle.renumber.proofs.Home.{inverse-exists, home-below, home-named}
 
@@ -38,6 +38,13 @@ module _ (n : ℕ) (t names after : List ℕ) (N : IsNetwork n t) (O : OneToOne 
     home = renaming .there;
     undone = λ x y b. home-named n names O (homeNames n names) (inverse-exists n names O) x (bonded-from n after (R .network) x y b);
   }
+
+  -- shortest-path rings go to shortest-path rings, there and home
+  pub rings-there : (r : List ℕ) → ShortestPathRing (Bonded t) 0 r → ShortestPathRing (Bonded after) 0 (map (name names) r)
+  rings-there = ring-there renaming (bonded-back n after (R .network)) 0 0
+
+  pub rings-home : (s : List ℕ) → ShortestPathRing (Bonded after) 0 s → ShortestPathRing (Bonded t) 0 (map (name (homeNames n names)) s)
+  rings-home = ring-there renaming-home (bonded-back n t N) 0 0
 
   module _ (limit : ℕ) (xs ys : List (List ℕ)) (X : RingListing (Bonded t) limit xs) (Y : RingListing (Bonded after) limit ys) where
     pub carried-to : CarriedTo names xs ys

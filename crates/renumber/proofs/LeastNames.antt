@@ -55,8 +55,8 @@ module _ (t names : List ℕ) (x low : ℕ) where
 pub in-table : (n : ℕ) (t : List ℕ) (x p : ℕ) → IsNetwork n t → x < n → p < places → x * places + p < length t
 in-table n t x p N l m = omega (arith, N .whole)
 
-pub few : (n : ℕ) (t : List ℕ) (x : ℕ) → IsNetwork n t → x < n → x < atomsMost
-few n t x N l = omega (arith, N .counted .most)
+pub below-most : (n : ℕ) (t : List ℕ) (x : ℕ) → IsNetwork n t → x < n → x < atomsMost
+below-most n t x N l = omega (arith, N .counted .most)
 
 pub has-name : (n : ℕ) (t names : List ℕ) (x p : ℕ) → IsNetwork n t → OneToOne n names → x < n → p < places → (word t x p ≡ free → ⊥) → word t x p < length names
 has-name n t names x p N O l m h = omega (arith, N .below x p l m h, O .long)

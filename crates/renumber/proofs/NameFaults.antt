@@ -6,11 +6,11 @@ use mathlib.Core.List.{List}
 use Prim.Native.Nat.{ℕ, zero, suc, _+_, _≤_, _<_}
 use native.Mathlib.Omega.{arith}
 use native.Mathlib.Decide.{decLe, ℕ-discrete}
-use lib.ListN.{length, getD}
+use lib.ListN.{length}
 use borrow.Author.Tests.{eq-eqb, ne-eqb, le-leb, lt-leb}
 use Rattle.network.specs.declared.Answer.{Answer}
 use Rattle.network.specs.Verdict.{answer, accepted}
-use Rattle.renumber.specs.Names.{name, OneToOne, BadName, NamesFirst, seen, badName, nameFaults}
+use Rattle.renumber.specs.Names.{name, OneToOne, BadName, NamesBad, seen, badName, nameFaults}
 
 no-bool : {A : Type 0} → _≡_ {A = Bool} false true → A
 no-bool z = absurd (let e : _≡_ {A = ℕ} 0 1 = cc in omega arith)
@@ -120,11 +120,11 @@ module _ (n : ℕ) (names : List ℕ) (long : length names ≡ n) where
   names-exactly = (one-to-one-of, λ O. ap code (accepted-names O))
 
   -- and refused at the first place that is bad
-  pub names-first : (nameFaults n names (length names) 0 accepted .code ≡ 0 → ⊥) → NamesFirst n names (nameFaults n names (length names) 0 accepted)
-  names-first z = go (scan n names (length names) 0)
+  pub names-bad : (nameFaults n names (length names) 0 accepted .code ≡ 0 → ⊥) → NamesBad n names (nameFaults n names (length names) 0 accepted)
+  names-bad z = go (scan n names (length names) 0)
     where
       go : Found n names (length names) 0 (nameFaults n names (length names) 0 accepted) ⊎ None n names (length names) 0 (nameFaults n names (length names) 0 accepted)
-          → NamesFirst n names (nameFaults n names (length names) 0 accepted)
-      go (inl r) = subst (λ (a : Answer). NamesFirst n names a) (sym (r .is))
+          → NamesBad n names (nameFaults n names (length names) 0 accepted)
+      go (inl r) = subst (λ (a : Answer). NamesBad n names a) (sym (r .is))
           (record { eighteen = refl; row = refl; place = omega (arith, r .high); there = r .bad; first = λ i l. r .none i (omega arith) l })
       go (inr r) = absurd (z (ap code (r .is)))

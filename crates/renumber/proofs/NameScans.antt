@@ -2,13 +2,12 @@
 use mathlib.Core.Path.{_≡_, refl, sym, _∙_}
 use mathlib.Core.Bool.{Bool, true, false}
 use mathlib.Core.List.{List}
-use Prim.Native.Nat.{ℕ, zero, suc, _+_, _-_, _≤_, _<_}
+use Prim.Native.Nat.{ℕ, suc, _+_, _-_, _≤_, _<_}
 use native.Mathlib.Nat.{sub-zero}
 use native.Mathlib.Omega.{arith}
-use lib.ListN.{length, getD}
 use borrow.Author.Tests.{eq-eqb, ne-eqb, le-leb, lt-leb}
 use Rattle.network.specs.declared.Answer.{Answer}
-use Rattle.network.specs.Verdict.{answer, accepted}
+use Rattle.network.specs.Verdict.{answer}
 use Rattle.renumber.specs.Names.{name, seen, badName, nameFaults}
 
 pub seen-start : (names : List ℕ) (w m : ℕ) → seen names w m 0 ≡ seen names w (m - 0) 0

@@ -1,17 +1,17 @@
 -- Rows filled with the least names in turn are the table of the renumbered network.
 use mathlib.Core.Path.{_≡_, refl, sym, _∙_, ap, subst}
-use mathlib.Core.Logic.{_≢_, _⊎_, inl, inr, _↔_}
+use mathlib.Core.Logic.{_≢_, _⊎_, inl, inr}
 use mathlib.Core.List.{List}
-use Prim.Native.Nat.{ℕ, zero, suc, _+_, _*_, _≤_, _<_}
+use Prim.Native.Nat.{ℕ, zero, suc, _*_, _≤_, _<_}
 use native.Mathlib.Omega.{arith}
 use native.Mathlib.Decide.{decLt, ℕ-discrete}
-use lib.ListN.{length, getD}
+use lib.ListN.{length}
 use Rattle.graph.proofs.Pigeons.{pigeons}
-use Rattle.network.specs.Maxima.{atomsMost, places, free}
+use Rattle.network.specs.Maxima.{places, free}
 use Rattle.network.specs.Network.{word, Holds, Bonded, IsNetwork}
-use Rattle.network.proofs.Bonds.{bonded-from, bonded-to, bonded-back, bonded-other}
+use Rattle.network.proofs.Bonds.{bonded-to, bonded-back, bonded-other}
 use Rattle.renumber.specs.Names.{name, OneToOne}
-use Rattle.renumber.specs.Rows.{Least, above, Filled}
+use Rattle.renumber.specs.Rows.{above, Filled}
 use Rattle.renumber.specs.Outcome.{Renumbered}
 use Rattle.renumber.proofs.LeastNames.{in-table}
 use Rattle.renumber.proofs.Naming.{same-name, named}

@@ -1,12 +1,12 @@
 -- The renumbered table is one only, and so is the outcome of a call.
 use mathlib.Core.Path.{_≡_, sym, _∙_, ap, subst₂}
 use mathlib.Core.List.{List}
-use Prim.Native.Nat.{ℕ, _<_}
+use Prim.Native.Nat.{ℕ}
 use native.Mathlib.Decide.{ℕ-discrete}
 use Rattle.network.specs.declared.Answer.{Answer}
 use Rattle.network.specs.Network.{Bonded}
 use Rattle.network.proofs.Bonds.{bonded-from, bonded-to, network-unique}
-use Rattle.renumber.specs.Names.{name, OneToOne}
+use Rattle.renumber.specs.Names.{OneToOne}
 use Rattle.renumber.specs.Outcome.{Renumbered, Outcome}
 use Rattle.renumber.proofs.Naming.{named}
 use Rattle.renumber.proofs.Outcomes.{accepts}

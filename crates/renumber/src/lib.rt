@@ -4,7 +4,6 @@ mod rows;
 
 use network::Answer;
 use network::Network;
-ghost use mathlib.Core.Path.{_≡_};
 ghost use Rattle.renumber.specs.Outcome.{Outcome};
 
 // Atom i gets the number names[i], and `renamed` becomes the table under these numbers: refusals 1, 4, 6, 7 to 11, and 18.

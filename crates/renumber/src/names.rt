@@ -1,11 +1,12 @@
 // Refusal 18: the first name that is not below n, or was seen earlier.
 use network::Answer;
 ghost use mathlib.Core.Path.{_≡_};
-ghost use Prim.Native.Nat.{ℕ, _<_};
+ghost use Prim.Native.Nat.{_<_};
 ghost use lib.ListN.{length};
 ghost use Rattle.network.specs.Verdict.{accepted};
 ghost use Rattle.renumber.specs.Names.{name, seen, badName, nameFaults};
 
+// 18 at the first bad name, or accepted.
 pub fn name_faults(n: usize, names: &[u16]) -> Answer
     ensures { λ r. ⌜ r ≡ nameFaults n (now (names .entry)) (length (now (names .entry))) 0 accepted ⌝ }
 {

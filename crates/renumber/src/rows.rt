@@ -1,7 +1,7 @@
 // The rows of the new table: the neighbours of atom x, under their new names and ascending, go to row names[x].
 use network::Network;
 ghost use mathlib.Core.Path.{_≡_};
-ghost use Prim.Native.Nat.{ℕ, _*_, _≤_, _<_};
+ghost use Prim.Native.Nat.{_*_, _<_};
 ghost use lib.ListN.{length, getD};
 ghost use Rattle.network.specs.Maxima.{places, free};
 ghost use Rattle.network.specs.Network.{IsNetwork};
@@ -9,6 +9,7 @@ ghost use Rattle.renumber.specs.Names.{OneToOne};
 ghost use Rattle.renumber.specs.Rows.{Offered, Least, Filled};
 ghost use Rattle.renumber.specs.Outcome.{Renumbered};
 
+// Every row of the new table, in the order of the old numbers.
 pub fn rename_rows(n: usize, table: &[u16], names: &[u16], renamed: &mut [u16])
     requires { ⌜ IsNetwork n (now table) × OneToOne n (now names) × (length (now renamed) ≡ places * n) ⌝ }
     ensures { λ _. ⌜ Renumbered n (now (table .entry)) (now (names .entry)) (now (renamed .exit)) ⌝ }

@@ -1,10 +1,9 @@
-use Prim.Native.Nat.{_≤_, _-_, _+_, _*_}
-use mathlib.Core.Path.{_≡_}
+use Prim.Native.Nat.{_≤_, _-_}
 use native.Mathlib.Omega.{arith}
 use borrow.Author.Needs.{needs}
 use Rattle.network.specs.Maxima.{places}
 use Rattle.renumber.specs.Rows.{Least}
-use Rattle.renumber.proofs.LeastNames.{least-none, least-more, least-all, few, in-table, has-name}
+use Rattle.renumber.proofs.LeastNames.{least-none, least-more, least-all, below-most, in-table, has-name}
 use Rattle.renumber.proofs.rows.least_name.Statement.{statement}
 use Rattle.renumber.proofs.rows.least_name.Tie as tie
 
@@ -18,13 +17,13 @@ loop-holds : tie.Need-loop-holds Inv-loop μ-loop
 loop-holds c = (omega arith, search least-none)
 
 mul-lesser : tie.Need-mul-lesser Inv-loop μ-loop
-mul-lesser c = let start = c .before .before .before .before in omega (arith, few _ _ _ (start .pre .0) (start .pre .2))
+mul-lesser c = let start = c .before .before .before .before in omega (arith, below-most _ _ _ (start .pre .0) (start .pre .2))
 
 add-lesser : tie.Need-add-lesser Inv-loop μ-loop
-add-lesser c = let start = c .before .before .before .before in omega (arith, few _ _ _ (start .pre .0) (start .pre .2))
+add-lesser c = let start = c .before .before .before .before in omega (arith, below-most _ _ _ (start .pre .0) (start .pre .2))
 
 mul-lesser-2 : tie.Need-mul-lesser-2 Inv-loop μ-loop
-mul-lesser-2 c = let start = c .before .before .before .before in omega (arith, few _ _ _ (start .pre .0) (start .pre .2))
+mul-lesser-2 c = let start = c .before .before .before .before in omega (arith, below-most _ _ _ (start .pre .0) (start .pre .2))
 
 shared-slice-read-lesser : tie.Need-shared-slice-read-lesser Inv-loop μ-loop
 shared-slice-read-lesser c = let start = c .before .before .before .before .before in in-table _ _ _ _ (start .pre .0) (start .pre .2) (c .before .loop-test .taken)
