@@ -82,15 +82,16 @@ static void try_rings(table_lent t, size_t limit, const ring_list *found)
         words += found->rings[i].word[0] + 1u;
     try_count(t, limit, MOST_RINGS, n * n);
     try_list(t, limit, total > 0 ? total : 1, n * n, words);
-    try_list(t, limit, random_from(total > 0 ? total : 1, MOST_RINGS), n * n, words + random_below(40));
-    if (total > 0) {
-        try_list(t, limit, MOST_RINGS, n * n, words - 1);
-        try_list(t, limit, MOST_RINGS, n * n, random_below(words));
-    }
+    if (random_once_in(2))
+        try_list(t, limit, random_from(total > 0 ? total : 1, MOST_RINGS), n * n, words + random_below(40));
+    if (total > 0)
+        try_list(t, limit, MOST_RINGS, n * n, random_once_in(2) ? words - 1 : random_below(words));
     if (total > 1) {
         size_t few = random_once_in(2) ? total - 1 : random_from(1, total - 1);
-        try_count(t, limit, few, n * n);
-        try_list(t, limit, few, n * n, random_below(words + 10));
+        if (random_once_in(2))
+            try_count(t, limit, few, n * n);
+        else
+            try_list(t, limit, few, n * n, random_below(words + 10));
     }
 }
 

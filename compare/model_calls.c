@@ -2,7 +2,7 @@
 #include "model.h"
 #include "report.h"
 
-enum { STEPS = 150000 }; /* the steps that one way of searching may take in one case */
+enum { STEPS = 60000 }; /* the steps that one way of searching may take in one case */
 
 static const rings_answer accepted = {0, 0, 0};
 

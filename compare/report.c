@@ -84,8 +84,10 @@ void same_census(const char *call, const rings_census *got, const rings_census *
 {
     same_fault(call, &got->answer, &must_be->answer);
     same(call, "limit", (long)got->limit, (long)must_be->limit);
-    for (int k = 0; k < 25; k++)
+    for (int k = 0; k < 25; k++) {
         same(call, "a count", got->counts[k], must_be->counts[k]);
+        tally.rings_of_length[k] += must_be->counts[k];
+    }
     same(call, "total", got->total, must_be->total);
     same(call, "words", (long)got->words, (long)must_be->words);
     same_double(call, "per_atom (as bits)", got->per_atom, must_be->per_atom);
@@ -128,7 +130,10 @@ void report_tallies(void)
            tally.tables, tally.files, tally.renumberings, tally.candidates);
     printf("counts and listings %zu, rings compared %zu; networks searched in both of the model's ways %zu\n",
            tally.listings, tally.rings, tally.both_ways);
-    printf("calls %zu, accepted %zu; refused, by number:", tally.calls, tally.refusals[0]);
+    printf("rings by length:");
+    for (int k = 3; k <= 24; k++)
+        printf(" %d:%zu", k, tally.rings_of_length[k]);
+    printf("\ncalls %zu, accepted %zu; refused, by number:", tally.calls, tally.refusals[0]);
     for (int number = 1; number <= 28; number++)
         printf(" %d:%zu", number, tally.refusals[number]);
     printf("\n");

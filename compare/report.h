@@ -7,7 +7,8 @@
 /* What a run has compared. */
 typedef struct {
     size_t cases, calls, networks, tables, files, renumberings, candidates, listings, rings, both_ways;
-    size_t refusals[29]; /* by number; 0: accepted */
+    size_t refusals[29];      /* by number; 0: accepted */
+    size_t rings_of_length[25];
 } tallies;
 
 extern tallies tally;
