@@ -11,7 +11,7 @@
 
 enum { QUICK = 2000, FIRST_SEED = 1, MANY = 1000 };
 
-/* One seeded case: a network with all its calls, then damaged tables and files. */
+/* One seeded case: two networks with all their calls, then damaged tables and files. */
 static void run_case(uint32_t seed)
 {
     static network net;
@@ -23,6 +23,9 @@ static void run_case(uint32_t seed)
     case_wrong_sizes(&net);
     case_damaged_file(&net);
     case_random_file();
+    stretched_network(&net);
+    report_case("stretched", seed);
+    case_network(&net);
     tally.cases++;
 }
 

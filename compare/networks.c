@@ -108,22 +108,6 @@ static void make_rings(network *net)
     scatter_bonds(net, random_below(3), ROW);
 }
 
-/* A few atoms joined at random by rows of other atoms: long rings, odd and even. */
-static void make_stretched(network *net)
-{
-    size_t joints = random_from(2, 6), stretch = random_from(3, 14), last = joints;
-    network_clear(net, MOST_ATOMS);
-    for (size_t rows = random_from(joints, joints + 3); rows > 0; rows--) {
-        size_t from = random_below(joints), to = random_below(joints);
-        for (size_t between = random_below(stretch); between > 0 && last < MOST_ATOMS; between--) {
-            bond(net, from, last);
-            from = last++;
-        }
-        bond(net, from, to);
-    }
-    net->atoms = last;
-}
-
 /* Parts that no bond joins. */
 static void make_parts(network *net)
 {
@@ -181,7 +165,7 @@ static void thin(network *net)
 const char *random_network(network *net)
 {
     const char *kind;
-    switch (random_below(11)) {
+    switch (random_below(10)) {
     case 0:
         kind = "random", network_clear(net, random_size(MOST_ATOMS));
         scatter_bonds(net, random_below(net->atoms * 6), random_from(1, ROW));
@@ -215,9 +199,6 @@ const char *random_network(network *net)
     case 8:
         kind = "chain", make_chain(net);
         break;
-    case 9:
-        kind = "stretched", make_stretched(net);
-        break;
     default:
         kind = "full rows", network_clear(net, random_from(9, MOST_ATOMS));
         scatter_bonds(net, net->atoms * 40, ROW);
@@ -229,4 +210,21 @@ const char *random_network(network *net)
         thin(net);
     network_complete(net);
     return kind;
+}
+
+void stretched_network(network *net)
+{
+    size_t joints = random_from(2, 6), stretch = random_from(3, 14), last = joints;
+    network_clear(net, MOST_ATOMS);
+    for (size_t rows = random_from(joints, joints + 3); rows > 0; rows--) {
+        size_t from = random_below(joints), to = random_below(joints);
+        for (size_t between = random_below(stretch); between > 0 && last < MOST_ATOMS; between--) {
+            bond(net, from, last);
+            from = last++;
+        }
+        bond(net, from, to);
+    }
+    net->atoms = last;
+    shuffle(net);
+    network_complete(net);
 }

@@ -31,4 +31,7 @@ void make_silica(network *net, size_t centres, size_t bonds);
 /* A random network of any of these and other kinds, and its kind's name. */
 const char *random_network(network *net);
 
+/* A few atoms joined at random by rows of other atoms: long rings, odd and even. */
+void stretched_network(network *net);
+
 #endif
