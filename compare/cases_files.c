@@ -3,7 +3,7 @@
 #include "random.h"
 #include "report.h"
 
-enum { HEAD = 9, BOND = 4, ROOM = HEAD + BOND * 1100, TABLE = MOST_ATOMS * ROW };
+enum { ROOM = HEAD + BOND * (MOST_BONDS + 100), TABLE = MOST_ATOMS * ROW };
 
 /* Sets two bytes of a file to a number, lower byte first. */
 static void put(uint8_t *file, size_t at, size_t number)
@@ -53,7 +53,7 @@ void case_damaged_file(const network *net)
     static uint16_t words[TABLE];
     size_t n = net->atoms;
     network_table(net, words);
-    size_t length = model_write(n, words, 8 * n, file, ROOM).bytes;
+    size_t length = model_write(n, words, ROW * n, file, ROOM).bytes;
     for (size_t times = random_from(1, 3); times > 0; times--)
         switch (random_below(6)) {
         case 0:
@@ -73,7 +73,7 @@ void case_damaged_file(const network *net)
                 damage_bond(file, (length - HEAD) / BOND, n);
             break;
         }
-    try_read(file, length, random_once_in(4) ? random_below(8 * n + 2) : TABLE);
+    try_read(file, length, random_once_in(4) ? random_below(ROW * n + 2) : TABLE);
     try_read(file, random_below(12), TABLE);
 }
 
@@ -82,7 +82,7 @@ void case_random_file(void)
     static uint8_t file[ROOM];
     size_t n = random_from(2, 40), bonds = 0, often = random_from(1, 12);
     for (size_t x = 0; x < n; x++)
-        for (size_t y = x + 1; y < n && bonds < 1000; y++)
+        for (size_t y = x + 1; y < n && bonds < MOST_BONDS; y++)
             if (random_once_in(often)) {
                 put(file, HEAD + BOND * bonds, x);
                 put(file, HEAD + BOND * bonds + 2, y);
@@ -93,5 +93,5 @@ void case_random_file(void)
     put(file, 7, bonds);
     if (bonds > 0 && random_once_in(4))
         damage_bond(file, bonds, n);
-    try_read(file, HEAD + BOND * bonds, 8 * n + random_below(3));
+    try_read(file, HEAD + BOND * bonds, ROW * n + random_below(3));
 }

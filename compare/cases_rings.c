@@ -69,8 +69,8 @@ void case_candidates(table_lent t, const network *net, const ring_list *found)
 static size_t affordable(const network *net, size_t wish)
 {
     size_t limit = wish;
-    while (model_rings(net, limit == 0 ? 12 : limit)->end == OUT_OF_STEPS)
-        limit = limit == 0 ? 9 : limit > 6 ? limit * 3 / 4 : limit - 1;
+    while (model_rings(net, limit_used(limit))->end == OUT_OF_STEPS)
+        limit = limit == 0 ? DEFAULT_LIMIT - 3 : limit > 6 ? limit * 3 / 4 : limit - 1;
     return limit;
 }
 
@@ -116,18 +116,18 @@ static void try_carried(table_lent t, size_t limit, const ring_list *found)
     }
     sort_rings(&carried);
     model_renumber(t.n, t.words, t.length, names, t.n, renamed, t.length);
-    const ring_list *fresh = model_rings(model_network(t.n, renamed), limit == 0 ? 12 : limit);
+    const ring_list *fresh = model_rings(model_network(t.n, renamed), limit_used(limit));
     if (fresh->end == OUT_OF_STEPS)
         return;
     if (!same_rings(fresh, &carried))
         report_model("a renumbering does not carry rings to rings");
-    try_list((table_lent){t.n, renamed, t.length}, limit, MOST_RINGS, t.n * t.n, fresh->count * 25);
+    try_list((table_lent){t.n, renamed, t.length}, limit, MOST_RINGS, t.n * t.n, fresh->count * (MOST_LENGTH + 1));
 }
 
 /* Writes a network, and reads what the model wrote. */
 static void try_file(table_lent t)
 {
-    static uint8_t file[9 + 4 * 1000];
+    static uint8_t file[HEAD + BOND * MOST_BONDS];
     rings_written written = model_write(t.n, t.words, t.length, file, sizeof file);
     try_write(t, written.bytes);
     try_write(t, written.bytes + random_below(50));
@@ -143,12 +143,12 @@ void case_network(const network *net)
     static uint16_t words[MOST_ATOMS * ROW];
     static const size_t wishes[] = {0, 3, 4, 5, 6, 7, 8, 10, 12, 16, 20, 23, 24};
     network_table(net, words);
-    table_lent t = {net->atoms, words, 8 * net->atoms};
+    table_lent t = {net->atoms, words, ROW * net->atoms};
     try_validate(t);
     try_distances(t, t.n * t.n);
     size_t wish = random_once_in(2) ? 24 : wishes[random_below(sizeof wishes / sizeof *wishes)];
     size_t limit = affordable(net, wish);
-    const ring_list *found = model_rings(net, limit == 0 ? 12 : limit);
+    const ring_list *found = model_rings(net, limit_used(limit));
     try_rings(t, limit, found);
     case_candidates(t, net, found);
     try_carried(t, limit, found);

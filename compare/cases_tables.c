@@ -3,7 +3,7 @@
 #include "random.h"
 #include "report.h"
 
-enum { ROOM = MOST_ATOMS * ROW + 64, LEAST_LIMIT = 3 };
+enum { ROOM = MOST_ATOMS * ROW + 64, WIDE = MOST_ATOMS * MOST_ATOMS + 2, LONGEST = HEAD + BOND * MOST_BONDS };
 
 /* A word to spoil a table with. */
 static uint16_t bad_word(size_t n)
@@ -58,14 +58,14 @@ static void try_all(table_lent t)
     try_validate(t);
     try_distances(t, square);
     try_test(t, atoms, random_below(4), square);
-    try_count(t, LEAST_LIMIT, MOST_RINGS, square);
-    try_list(t, LEAST_LIMIT, MOST_RINGS, square, random_below(100));
+    try_count(t, LEAST_LENGTH, MOST_RINGS, square);
+    try_list(t, LEAST_LENGTH, MOST_RINGS, square, random_below(100));
     if (random_once_in(2))
         names[random_below(t.n)] = (uint16_t)random_below(t.n + 1);
     if (random_once_in(4))
         names[random_below(t.n)] = FREE;
     try_renumber(t, names, t.n, t.length);
-    try_write(t, random_once_in(2) ? 4009 : random_below(100));
+    try_write(t, random_once_in(2) ? LONGEST : random_below(100));
     tally.tables++;
 }
 
@@ -75,7 +75,7 @@ void case_damaged_table(const network *net)
     network_table(net, words);
     for (size_t times = random_from(1, 3); times > 0; times--)
         damage(net->atoms, words);
-    try_all((table_lent){net->atoms, words, 8 * net->atoms});
+    try_all((table_lent){net->atoms, words, ROW * net->atoms});
 }
 
 void case_random_table(void)
@@ -90,7 +90,7 @@ void case_random_table(void)
         while (place < ROW)
             words[x * ROW + place++] = random_once_in(40) ? (uint16_t)random_below(n + 1) : FREE;
     }
-    try_all((table_lent){n, words, 8 * n});
+    try_all((table_lent){n, words, ROW * n});
 }
 
 /* A value now and then wrong: beside what is right, at an edge, or far off. */
@@ -129,18 +129,18 @@ void case_wrong_sizes(const network *net)
     for (size_t i = 0; i < MOST_LENGTH + 2; i++)
         atoms[i] = (uint16_t)random_below(n);
     for (int times = 0; times < 3; times++) {
-        table_lent t = {perhaps(n, 251), words, 0};
-        t.length = perhaps_length(random_once_in(4) && t.n <= 250 ? 8 * t.n : 8 * n, ROOM);
-        size_t dist = perhaps_length(random_once_in(4) && t.n <= 250 ? t.n * t.n : square, 62502);
-        size_t limit = perhaps(LEAST_LIMIT, 25), allowance = perhaps(MOST_RINGS, 0);
-        limit = limit == 0 || (limit > LEAST_LIMIT && limit < 25) ? LEAST_LIMIT : limit;
+        table_lent t = {perhaps(n, MOST_ATOMS + 1), words, 0};
+        t.length = perhaps_length(random_once_in(4) && t.n <= MOST_ATOMS ? ROW * t.n : ROW * n, ROOM);
+        size_t dist = perhaps_length(random_once_in(4) && t.n <= MOST_ATOMS ? t.n * t.n : square, WIDE);
+        size_t limit = perhaps(LEAST_LENGTH, MOST_LENGTH + 1), allowance = perhaps(MOST_RINGS, 0);
+        limit = limit == 0 || (limit > LEAST_LENGTH && limit <= MOST_LENGTH) ? LEAST_LENGTH : limit;
         try_validate(t);
         try_distances(t, dist);
         try_test(t, atoms, random_below(MOST_LENGTH + 2), dist);
         try_count(t, limit, allowance, dist);
         try_list(t, limit, allowance, dist, random_below(200));
-        try_renumber(t, names, perhaps_length(n, MOST_ATOMS + 1), perhaps_length(8 * n, ROOM));
-        try_write(t, perhaps_length(4009, 5000));
+        try_renumber(t, names, perhaps_length(n, MOST_ATOMS + 1), perhaps_length(ROW * n, ROOM));
+        try_write(t, perhaps_length(LONGEST, LONGEST + 100));
     }
     tally.tables++;
 }

@@ -54,7 +54,7 @@ static table_lent table_of(const char *name)
     report_case(name, 0);
     network_complete(&net);
     network_table(&net, words);
-    return (table_lent){net.atoms, words, 8 * net.atoms};
+    return (table_lent){net.atoms, words, ROW * net.atoms};
 }
 
 /* One network of the document. */
@@ -74,7 +74,7 @@ static void try_known(const known *k)
         report_model("the rings are not those of the document");
     try_count(t, k->limit, MOST_RINGS, t.n * t.n);
     try_list(t, k->limit, MOST_RINGS, t.n * t.n, found.words);
-    case_candidates(t, &net, model_rings(model_network(t.n, words), k->limit == 0 ? 12 : k->limit));
+    case_candidates(t, &net, model_rings(model_network(t.n, words), limit_used(k->limit)));
 }
 
 /* A cycle of the network at hand that is no shortest-path ring, though near misses take it for one: from every place,
@@ -120,7 +120,7 @@ static void try_edges(void)
     try_list(t, 0, 4, 49, 21);
     t.n = 0;
     try_validate(t);
-    t.n = 251;
+    t.n = MOST_ATOMS + 1;
     try_validate(t);
     network_clear(&net, 2);
     t = table_of("two atoms, bonded in one row");

@@ -5,7 +5,20 @@
 
 #include "libc.h"
 
-enum { MOST_ATOMS = 250, ROW = 8, FREE = 65535, MOST_LENGTH = 24, MOST_RINGS = 1000000, UNREACHED = 255 };
+/* The outline's numbers, written here anew. */
+enum {
+    MOST_ATOMS = 250,
+    ROW = 8,
+    FREE = 65535,
+    UNREACHED = 255,
+    LEAST_LENGTH = 3,
+    MOST_LENGTH = 24,
+    DEFAULT_LIMIT = 12,
+    MOST_RINGS = 1000000,
+    MOST_BONDS = 1000,
+    HEAD = 9, /* bytes of a file before its bonds */
+    BOND = 4, /* bytes of a bond */
+};
 
 /* A network: which atoms are bonded, the neighbours of each, and how far apart two atoms are. */
 typedef struct {
@@ -71,6 +84,9 @@ const ring_list *model_rings(const network *net, size_t limit);
 
 /* Keeps a list that was made otherwise, as what model_rings answers for this network and limit. */
 void model_keep(const network *net, size_t limit, const ring_list *list);
+
+/* The limit that a call uses. */
+size_t limit_used(size_t limit);
 
 /* ---- model_calls.c and model_files.c: each call of the library, filling what the buffers must be */
 

@@ -22,7 +22,7 @@ rings_answer model_validate(size_t n, const uint16_t *table, size_t table_len)
 {
     if (n < 1 || n > MOST_ATOMS)
         return refuse(1);
-    if (table_len != 8 * n)
+    if (table_len != ROW * n)
         return refuse(4);
     return model_faults(n, table);
 }
@@ -32,7 +32,7 @@ static rings_answer checks(size_t n, const uint16_t *table, size_t table_len, si
 {
     if (n < 1 || n > MOST_ATOMS)
         return refuse(1);
-    if (table_len != 8 * n)
+    if (table_len != ROW * n)
         return refuse(4);
     if (dist_len != n * n)
         return refuse(5);
@@ -58,7 +58,7 @@ rings_answer model_distances(size_t n, const uint16_t *table, size_t table_len, 
 /* The checks 14 to 17 of a candidate. */
 static rings_answer judge_candidate(const network *net, const uint16_t *atoms, size_t k)
 {
-    if (k < 3 || k > MOST_LENGTH)
+    if (k < LEAST_LENGTH || k > MOST_LENGTH)
         return refuse(14);
     for (size_t i = 0; i < k; i++)
         if (atoms[i] >= net->atoms)
@@ -133,21 +133,26 @@ const ring_list *model_rings(const network *net, size_t limit)
     return kept.list;
 }
 
+size_t limit_used(size_t limit)
+{
+    return limit == 0 ? DEFAULT_LIMIT : limit;
+}
+
 /* What counting and listing share: the checks to 12, the distances, and the numbers. */
 static rings_census census(size_t n, const uint16_t *table, size_t table_len, size_t limit, size_t allowance,
                            uint8_t *dist, size_t dist_len)
 {
     rings_census result;
     memset(&result, 0, sizeof result);
-    result.answer = n < 1 || n > MOST_ATOMS                               ? refuse(1)
-                    : limit != 0 && (limit < 3 || limit > MOST_LENGTH)    ? refuse(2)
-                    : allowance < 1 || allowance > MOST_RINGS             ? refuse(3)
-                                                                          : checks(n, table, table_len, dist_len);
+    result.answer = n < 1 || n > MOST_ATOMS ? refuse(1)
+                    : limit != 0 && (limit < LEAST_LENGTH || limit > MOST_LENGTH) ? refuse(2)
+                    : allowance < 1 || allowance > MOST_RINGS ? refuse(3)
+                    : checks(n, table, table_len, dist_len);
     if (result.answer.code != 0)
         return result;
     const network *net = model_network(n, table);
     fill_distances(net, dist);
-    const ring_list *found = model_rings(net, limit == 0 ? 12 : limit);
+    const ring_list *found = model_rings(net, limit_used(limit));
     if (found->end == OUT_OF_STEPS)
         report_model("the search was not to take so long");
     if (found->end == TOO_MANY || found->count > allowance) {
@@ -159,7 +164,7 @@ static rings_census census(size_t n, const uint16_t *table, size_t table_len, si
         result.counts[found->rings[i].word[0]]++;
         atoms += found->rings[i].word[0];
     }
-    result.limit = limit == 0 ? 12 : limit;
+    result.limit = limit_used(limit);
     result.total = (uint32_t)found->count;
     result.words = atoms + found->count;
     result.per_atom = (double)found->count / (double)n;

@@ -7,9 +7,9 @@ rings_answer model_renumber(size_t n, const uint16_t *table, size_t table_len, c
     static network fresh;
     if (n < 1 || n > MOST_ATOMS)
         return (rings_answer){1, 0, 0};
-    if (table_len != 8 * n)
+    if (table_len != ROW * n)
         return (rings_answer){4, 0, 0};
-    if (names_len != n || renamed_len != 8 * n)
+    if (names_len != n || renamed_len != ROW * n)
         return (rings_answer){6, 0, 0};
     rings_answer answer = model_faults(n, table);
     if (answer.code != 0)
@@ -46,7 +46,7 @@ static int signed_field(const uint8_t *bytes)
 static int judge_head(const uint8_t *file, size_t file_len, size_t table_len, int *value)
 {
     *value = 0;
-    if (file_len < 9)
+    if (file_len < HEAD)
         return 19;
     if (file[0] != 'B' || file[1] != 'N' || file[2] != 'W')
         return 20;
@@ -57,12 +57,12 @@ static int judge_head(const uint8_t *file, size_t file_len, size_t table_len, in
     if (atoms < 1 || atoms > MOST_ATOMS)
         return 22;
     *value = bonds;
-    if (bonds < 0 || bonds > 1000)
+    if (bonds < 0 || bonds > MOST_BONDS)
         return 23;
     *value = 0;
-    if (file_len != 9 + 4 * (size_t)bonds)
+    if (file_len != HEAD + BOND * (size_t)bonds)
         return 24;
-    return table_len < 8 * (size_t)atoms ? 25 : 0;
+    return table_len < ROW * (size_t)atoms ? 25 : 0;
 }
 
 rings_reading model_read(const uint8_t *file, size_t file_len, uint16_t *table, size_t table_len)
@@ -80,10 +80,10 @@ rings_reading model_read(const uint8_t *file, size_t file_len, uint16_t *table, 
     memset(&net, 0, sizeof net);
     net.atoms = (size_t)atoms;
     for (int bond = 0; bond < bonds; bond++) {
-        int x = field(file + 9 + 4 * bond), y = field(file + 11 + 4 * bond);
+        int x = field(file + HEAD + BOND * bond), y = field(file + HEAD + BOND * bond + 2);
         if (x >= atoms || y >= atoms || x >= y || x * 65536 + y <= before)
             result.answer = (rings_answer){26, 0, (size_t)bond};
-        else if (++degree[x] > 8 || ++degree[y] > 8)
+        else if (++degree[x] > ROW || ++degree[y] > ROW)
             result.answer = (rings_answer){27, 0, (size_t)bond};
         if (result.answer.code != 0)
             return result;
@@ -108,7 +108,7 @@ rings_written model_write(size_t n, const uint16_t *table, size_t table_len, uin
     for (size_t x = 0; x < n; x++)
         bonds += net->degree[x];
     bonds /= 2;
-    if (file_len < 9 + 4 * bonds) {
+    if (file_len < HEAD + BOND * bonds) {
         result.answer.code = 28;
         return result;
     }

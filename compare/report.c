@@ -65,8 +65,7 @@ static void same_double(const char *call, const char *what, double got, double m
     same(call, what, (long)a, (long)b);
 }
 
-/* Code, row and place. */
-static void same_fault(const char *call, const rings_answer *got, const rings_answer *must_be)
+void same_answer(const char *call, const rings_answer *got, const rings_answer *must_be)
 {
     same(call, "code", got->code, must_be->code);
     same(call, "row", (long)got->row, (long)must_be->row);
@@ -75,14 +74,9 @@ static void same_fault(const char *call, const rings_answer *got, const rings_an
     tally.calls++;
 }
 
-void same_answer(const char *call, const rings_answer *got, const rings_answer *must_be)
-{
-    same_fault(call, got, must_be);
-}
-
 void same_census(const char *call, const rings_census *got, const rings_census *must_be)
 {
-    same_fault(call, &got->answer, &must_be->answer);
+    same_answer(call, &got->answer, &must_be->answer);
     same(call, "limit", (long)got->limit, (long)must_be->limit);
     for (int k = 0; k < 25; k++) {
         same(call, "a count", got->counts[k], must_be->counts[k]);
@@ -99,7 +93,7 @@ void same_census(const char *call, const rings_census *got, const rings_census *
 
 void same_candidate(const char *call, const rings_candidate *got, const rings_candidate *must_be)
 {
-    same_fault(call, &got->answer, &must_be->answer);
+    same_answer(call, &got->answer, &must_be->answer);
     same_bool(call, "yes", &got->yes, must_be->yes);
     same(call, "first", (long)got->first, (long)must_be->first);
     same(call, "second", (long)got->second, (long)must_be->second);
@@ -110,7 +104,7 @@ void same_candidate(const char *call, const rings_candidate *got, const rings_ca
 
 void same_reading(const char *call, const rings_reading *got, const rings_reading *must_be)
 {
-    same_fault(call, &got->answer, &must_be->answer);
+    same_answer(call, &got->answer, &must_be->answer);
     same(call, "atoms", (long)got->atoms, (long)must_be->atoms);
     same(call, "bonds", (long)got->bonds, (long)must_be->bonds);
     same(call, "value", got->value, must_be->value);
@@ -119,7 +113,7 @@ void same_reading(const char *call, const rings_reading *got, const rings_readin
 
 void same_written(const char *call, const rings_written *got, const rings_written *must_be)
 {
-    same_fault(call, &got->answer, &must_be->answer);
+    same_answer(call, &got->answer, &must_be->answer);
     same(call, "bytes", (long)got->bytes, (long)must_be->bytes);
     tally.files++;
 }
