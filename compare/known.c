@@ -142,7 +142,7 @@ static void try_layers(void)
     try_list(t, 8, found.count - 1, t.n * t.n, found.count * 9);
     make_layers(&net, 10, 4, true);
     t = table_of("ten layers of four");
-    found.end = TOO_MANY;
+    rings_by_antipodes(&net, 10, ~(size_t)0, &found);
     model_keep(&net, 10, &found);
     try_count(t, 10, MOST_RINGS, t.n * t.n);
     try_list(t, 10, MOST_RINGS, t.n * t.n, 100);

@@ -76,6 +76,8 @@ void one_writing(const uint16_t *atoms, size_t k, uint16_t *writing);
 /* Puts rings in list order. */
 void sort_rings(ring_list *list);
 
+/* ---- model_kept.c: the rings of the network at hand */
+
 /* Whether two lists hold the same rings in the same order. */
 bool same_rings(const ring_list *a, const ring_list *b);
 
@@ -85,10 +87,10 @@ const ring_list *model_rings(const network *net, size_t limit);
 /* Keeps a list that was made otherwise, as what model_rings answers for this network and limit. */
 void model_keep(const network *net, size_t limit, const ring_list *list);
 
+/* ---- model_calls.c and model_files.c: each call of the library, filling what the buffers must be */
+
 /* The limit that a call uses. */
 size_t limit_used(size_t limit);
-
-/* ---- model_calls.c and model_files.c: each call of the library, filling what the buffers must be */
 
 rings_answer model_validate(size_t n, const uint16_t *table, size_t table_len);
 rings_answer model_distances(size_t n, const uint16_t *table, size_t table_len, uint8_t *dist, size_t dist_len);

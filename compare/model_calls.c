@@ -2,8 +2,6 @@
 #include "model.h"
 #include "report.h"
 
-enum { STEPS = 60000 }; /* the steps that one way of searching may take in one case */
-
 static const rings_answer accepted = {0, 0, 0};
 
 /* A refusal without a place. */
@@ -92,50 +90,26 @@ rings_candidate model_test(size_t n, const uint16_t *table, size_t table_len, co
     return result;
 }
 
-/* The rings found last: of which table, up to which limit. */
-static struct {
-    const ring_list *list;
-    size_t atoms, limit;
-    uint16_t table[MOST_ATOMS * ROW];
-} kept;
-
-void model_keep(const network *net, size_t limit, const ring_list *list)
-{
-    kept.list = list;
-    kept.atoms = net->atoms;
-    kept.limit = limit;
-    network_table(net, kept.table);
-}
-
-bool same_rings(const ring_list *a, const ring_list *b)
-{
-    if (a->count != b->count)
-        return false;
-    return a->count == 0 || memcmp(a->rings, b->rings, a->count * sizeof(ring)) == 0;
-}
-
-const ring_list *model_rings(const network *net, size_t limit)
-{
-    static ring_list plain, quick;
-    static uint16_t table[MOST_ATOMS * ROW];
-    network_table(net, table);
-    if (kept.list && kept.limit == limit && kept.atoms == net->atoms &&
-        memcmp(table, kept.table, net->atoms * ROW * sizeof(uint16_t)) == 0)
-        return kept.list;
-    rings_by_cycles(net, limit, STEPS, &plain);
-    rings_by_antipodes(net, limit, 2 * STEPS, &quick);
-    if (plain.end == COMPLETE && quick.end == COMPLETE) {
-        tally.both_ways++;
-        if (!same_rings(&plain, &quick))
-            report_model("all cycles and pairs of shortest paths give different rings");
-    }
-    model_keep(net, limit, plain.end == COMPLETE ? &plain : &quick);
-    return kept.list;
-}
-
 size_t limit_used(size_t limit)
 {
     return limit == 0 ? DEFAULT_LIMIT : limit;
+}
+
+/* The numbers that follow from the rings found. */
+static void fill_numbers(const ring_list *found, size_t n, size_t limit, rings_census *result)
+{
+    size_t atoms = 0;
+    for (size_t i = 0; i < found->count; i++) {
+        result->counts[found->rings[i].word[0]]++;
+        atoms += found->rings[i].word[0];
+    }
+    result->limit = limit_used(limit);
+    result->total = (uint32_t)found->count;
+    result->words = atoms + found->count;
+    result->per_atom = (double)found->count / (double)n;
+    result->has_mean = found->count > 0;
+    if (result->has_mean)
+        result->mean = (double)atoms / (double)found->count;
 }
 
 /* What counting and listing share: the checks to 12, the distances, and the numbers. */
@@ -155,22 +129,10 @@ static rings_census census(size_t n, const uint16_t *table, size_t table_len, si
     const ring_list *found = model_rings(net, limit_used(limit));
     if (found->end == OUT_OF_STEPS)
         report_model("the search was not to take so long");
-    if (found->end == TOO_MANY || found->count > allowance) {
+    if (found->end == TOO_MANY || found->count > allowance)
         result.answer = refuse(12);
-        return result;
-    }
-    size_t atoms = 0;
-    for (size_t i = 0; i < found->count; i++) {
-        result.counts[found->rings[i].word[0]]++;
-        atoms += found->rings[i].word[0];
-    }
-    result.limit = limit_used(limit);
-    result.total = (uint32_t)found->count;
-    result.words = atoms + found->count;
-    result.per_atom = (double)found->count / (double)n;
-    result.has_mean = found->count > 0;
-    if (result.has_mean)
-        result.mean = (double)atoms / (double)found->count;
+    else
+        fill_numbers(found, n, limit, &result);
     return result;
 }
 

@@ -87,7 +87,8 @@ enum rings_refusal {
     RINGS_REFUSED_FILE_BONDS = 23,    /* The file's bond count is not 0 to RINGS_BONDS. */
     RINGS_REFUSED_FILE_LENGTH = 24,   /* The file is not RINGS_FILE_BYTES(bonds) bytes. */
     RINGS_REFUSED_READ_TABLE = 25,    /* The table lent to the reader is under RINGS_TABLE_WORDS(n) words. */
-    RINGS_REFUSED_FILE_BOND = 26,     /* A bond's atom is not below n, its first not below its second, or the bond not after the previous one. */
+    RINGS_REFUSED_FILE_BOND = 26,     /* A bond's atom is not below the atom count, its first atom not below its
+                                         second, or the bond not after the previous one. */
     RINGS_REFUSED_NINTH_BOND = 27,    /* A bond is the ninth on one of its atoms. */
     RINGS_REFUSED_FILE_BUFFER = 28    /* The byte buffer lent to the writer is too short. */
 };
