@@ -1,0 +1,166 @@
+-- Bonds without a fault are valid bonds.
+use mathlib.Core.Path.{_≡_, refl, sym, _∙_, ap, subst}
+use mathlib.Core.Logic.{_⊎_, inl, inr}
+use mathlib.Core.Bool.{Bool, true, false, not}
+use mathlib.Core.List.{List, [], _∷_, _++_, map, List·Memᴰ·eq-of-singleton, List·Memᴰ·not-nil}
+use Prim.Native.Nat.{ℕ, zero, suc, _+_, _-_, _*_, _≤_, _<_}
+use native.Mathlib.Numerals.{add-one}
+use native.Mathlib.Omega.{arith}
+use native.Mathlib.Decide.{decLe, decLt, ℕ-discrete}
+use lib.ListN.{length, length-append}
+use borrow.Author.Tests.{eq-eqb, ne-eqb, lt-ltb, le-ltb}
+use Rattle.graph.specs.Lists.{_∈_, Ascending, count}
+use Rattle.graph.proofs.Lists.{map-of, map-has, count-of, count-has, append-ascending}
+use Rattle.network.specs.declared.Answer.{Answer}
+use Rattle.network.specs.Maxima.{places}
+use Rattle.network.specs.Verdict.{answer, accepted}
+use Rattle.bnw.specs.File.{Bond, Earlier, partner, partners, ValidBonds}
+use Rattle.bnw.specs.Reading.{earlier, follows, bondsBelow, bondFault, orAt, firstBond}
+use Rattle.bnw.proofs.Runs.{map-more}
+use Rattle.bnw.proofs.Partners.{partner-first, partner-second, partner-none, partners-more, partners-start}
+use Rattle.bnw.proofs.BondFaults.{fault-first, fault-second, fault-order, fault-after, fault-ninth-first, fault-ninth-second, fault-none}
+
+-- the order of bonds
+pub earlier-not : (a : Bond) → Earlier a a → ⊥
+earlier-not a (inl h) = omega arith
+earlier-not a (inr h) = omega (arith, h .1)
+
+pub earlier-on : (a b c : Bond) → Earlier a b → Earlier b c → Earlier a c
+earlier-on a b c (inl h) (inl k) = inl (omega arith)
+earlier-on a b c (inl h) (inr k) = inl (omega (arith, k .0))
+earlier-on a b c (inr h) (inl k) = inl (omega (arith, h .0))
+earlier-on a b c (inr h) (inr k) = inr (h .0 ∙ k .0, omega (arith, h .1, k .1))
+
+pub earlier-of : (a b : Bond) → earlier a b ≡ true → Earlier a b
+unfolding earlier
+earlier-of a b e = go (decLt (a .first) (b .first)) (ℕ-discrete (a .first) (b .first)) (decLt (a .second) (b .second))
+  where
+    never : _≡_ {A = Bool} false true → ⊥
+    never q = let z : _≡_ {A = ℕ} 0 1 = cc in omega arith
+
+    go : Dec (a .first < b .first) → Dec (a .first ≡ b .first) → Dec (a .second < b .second) → Earlier a b
+    go (yes l) _ _ = inl l
+    go (no l) (yes d) (yes m) = inr (d, m)
+    go (no l) (yes d) (no m) = absurd (never (rw (le-ltb (a .first) (b .first) (omega arith), eq-eqb (a .first) (b .first) d, le-ltb (a .second) (b .second) (omega arith)) at e))
+    go (no l) (no d) _ = absurd (never (rw (le-ltb (a .first) (b .first) (omega arith), ne-eqb (a .first) (b .first) d) at e))
+
+pub earlier-is : (a b : Bond) → Earlier a b → earlier a b ≡ true
+unfolding earlier
+earlier-is a b (inl l) = rw (lt-ltb (a .first) (b .first) l)
+earlier-is a b (inr h) = rw (le-ltb (a .first) (b .first) (omega (arith, h .0)), eq-eqb (a .first) (b .first) (h .0), lt-ltb (a .second) (b .second) (h .1))
+
+-- what no fault at bond k says, and what says so
+pub record Right (n : ℕ) (bond : ℕ → Bond) (k : ℕ) : Type 0 where
+  pub ordered : bond k .first < bond k .second
+  pub below : bond k .second < n
+  pub after : follows bond k ≡ true
+  pub room-first : length (partners (bondsBelow bond k) (bond k .first)) < places
+  pub room-second : length (partners (bondsBelow bond k) (bond k .second)) < places
+
+module _ (n : ℕ) (bond : ℕ → Bond) (k : ℕ) where
+  pub right-none : Right n bond k → bondFault n bond k ≡ 0
+  right-none r =
+      let l : bond k .first < n = omega (arith, r .ordered, r .below) in
+      sym (fault-none n bond k _ _ refl refl l (r .below) (r .ordered) true (sym (r .after)) refl _ refl (r .room-first) _ refl (r .room-second))
+
+  pub right-of : bondFault n bond k ≡ 0 → Right n bond k
+  right-of z =
+      let first-below : bond k .first < n = elim (decLe n (bond k .first)) [ yes h ↦ absurd (omega (arith, fault-first n bond k _ _ refl refl h)) | no h ↦ omega arith ] in
+      let below : bond k .second < n = elim (decLe n (bond k .second)) [ yes h ↦ absurd (omega (arith, fault-second n bond k _ _ refl refl first-below h)) | no h ↦ omega arith ] in
+      let ordered : bond k .first < bond k .second = elim (decLe (bond k .second) (bond k .first)) [ yes h ↦ absurd (omega (arith, fault-order n bond k _ _ refl refl first-below below h)) | no h ↦ omega arith ] in
+      let after : follows bond k ≡ true = comes first-below below ordered (follows bond k) refl in
+      let room-first : length (partners (bondsBelow bond k) (bond k .first)) < places =
+      elim (decLe places (length (partners (bondsBelow bond k) (bond k .first)))) [
+        | yes h ↦ absurd (omega (arith, fault-ninth-first n bond k _ _ refl refl first-below below ordered true (sym after) refl _ refl h))
+        | no h ↦ omega arith
+      ] in
+      record {
+        ordered = ordered;
+        below = below;
+        after = after;
+        room-first = room-first;
+        room-second = elim (decLe places (length (partners (bondsBelow bond k) (bond k .second)))) [
+          | yes h ↦ absurd (omega (arith, fault-ninth-second n bond k _ _ refl refl first-below below ordered true (sym after) refl _ refl room-first _ refl h))
+          | no h ↦ omega arith
+        ];
+      }
+    where
+      comes : bond k .first < n → bond k .second < n → bond k .first < bond k .second → (b : Bool) → b ≡ follows bond k → follows bond k ≡ true
+      comes f s o true e = sym e
+      comes f s o false e = absurd (omega (arith, fault-after n bond k _ _ refl refl f s o false e refl))
+
+-- bonds without a fault
+module _ (n : ℕ) (bond : ℕ → Bond) (m : ℕ) (right : (k : ℕ) → k < m → Right n bond k) where
+  next : (k : ℕ) → suc k < m → Earlier (bond k) (bond (suc k))
+  unfolding follows
+  next k l = let e : suc k - 1 ≡ k = omega arith in earlier-of (bond k) (bond (suc k)) (rw (ne-eqb (suc k) 0 (omega arith), e) at (right (suc k) l .after))
+
+  chain : (j k : ℕ) → j < k → k < m → Earlier (bond j) (bond k)
+  chain j zero h l = absurd (omega arith)
+  chain j (suc k) h l = go (ℕ-discrete j k) (chain j k)
+    where
+      go : Dec (j ≡ k) → (j < k → k < m → Earlier (bond j) (bond k)) → Earlier (bond j) (bond (suc k))
+      go (yes e) ih = rw e (next k l)
+      go (no e) ih = earlier-on (bond j) (bond k) (bond (suc k)) (ih (omega arith) (omega arith)) (next k l)
+
+  pub numbered : (k : ℕ) {b : Bond} → b ∈ bondsBelow bond k → (j : ℕ) × (j < k) × (b ≡ bond j)
+  numbered k h = let r = map-of bond (count k 0) h in (r .0, omega (arith, count-of k 0 (r .1) .1), r .2)
+
+  rises : (k : ℕ) → k ≤ m → Ascending Earlier (bondsBelow bond k)
+  rises zero h = tt
+  rises (suc k) h =
+      subst (Ascending Earlier) (sym (rw add-one at (map-more bond k)))
+      (append-ascending Earlier (bondsBelow bond k) (bond k ∷ []) (rises k (omega arith)) (λ b q. absurd (List·Memᴰ·not-nil q), tt)
+      (λ a b p q. let r = numbered k p in
+      subst (λ (c : Bond). Earlier c b) (sym (r .2)) (subst (λ (c : Bond). Earlier (bond (r .0)) c) (sym (List·Memᴰ·eq-of-singleton q)) (chain (r .0) k (r .1) (omega arith)))))
+
+  rooms : (x k : ℕ) → k ≤ m → length (partners (bondsBelow bond k) x) ≤ places
+  rooms x zero h = omega (arith, partners-start bond x)
+  rooms x (suc k) h =
+      subst (λ (xs : List ℕ). length xs ≤ places) (sym (rw add-one at (partners-more bond x k)))
+      (rw (length-append (partners (bondsBelow bond k) x) (partner x (bond k)))
+      (go (ℕ-discrete (bond k .first) x) (ℕ-discrete (bond k .second) x) (rooms x k (omega arith))))
+    where
+      go : Dec (bond k .first ≡ x) → Dec (bond k .second ≡ x) → length (partners (bondsBelow bond k) x) ≤ places → length (partners (bondsBelow bond k) x) + length (partner x (bond k)) ≤ places
+      go (yes e) _ ih = omega (arith, ap length (partner-first x (bond k) _ refl e), subst (λ (y : ℕ). length (partners (bondsBelow bond k) y) < places) e (right k h .room-first))
+      go (no e) (yes d) ih = omega (arith, ap length (partner-second x (bond k) _ refl e _ refl d), subst (λ (y : ℕ). length (partners (bondsBelow bond k) y) < places) d (right k h .room-second))
+      go (no e) (no d) ih = omega (arith, ap length (partner-none x (bond k) _ refl e _ refl d))
+
+  pub valid : ValidBonds n (bondsBelow bond m)
+  valid = record {
+    ordered = λ b h. let r = numbered m h in subst (λ (c : Bond). c .first < c .second) (sym (r .2)) (right (r .0) (r .1) .ordered);
+    below = λ b h. let r = numbered m h in subst (λ (c : Bond). c .second < n) (sym (r .2)) (right (r .0) (r .1) .below);
+    ascends = rises m (omega arith);
+    eight = λ x. rooms x m (omega arith);
+  }
+
+-- the scan of the bonds
+or-clean : (c k : ℕ) (a : Answer) → orAt c k a .code ≡ 0 → (c ≡ 0) × (a .code ≡ 0)
+unfolding orAt
+or-clean zero k a z = (refl, z)
+or-clean (suc c) k a z = absurd (omega arith)
+
+pub scan-clean : (fault : ℕ → ℕ) (m k : ℕ) → firstBond fault m k .code ≡ 0 → (j : ℕ) → k ≤ j → j < k + m → fault j ≡ 0
+unfolding firstBond
+scan-clean fault zero k z j l h = absurd (omega arith)
+scan-clean fault (suc m) k z j l h =
+    let both = or-clean (fault k) k _ z in
+    elim (decLe (k + 1) j) [
+      | yes i ↦ scan-clean fault m (k + 1) (both .1) j i (omega arith)
+      | no i ↦ (let e : j ≡ k = omega arith in rw e (both .0))
+    ]
+
+pub clean-scan : (fault : ℕ → ℕ) (m k : ℕ) → ((j : ℕ) → k ≤ j → j < k + m → fault j ≡ 0) → firstBond fault m k ≡ accepted
+unfolding firstBond orAt
+clean-scan fault zero k f = refl
+clean-scan fault (suc m) k f = rw (f k (omega arith) (omega arith)) (clean-scan fault m (k + 1) (λ j l h. f j (omega arith) (omega arith)))
+
+-- a number that no bond gives is no answer
+pub scan-never : (c : ℕ) → (c ≡ 0 → ⊥) → (fault : ℕ → ℕ) → ((k : ℕ) → fault k ≡ c → ⊥) → (m k : ℕ) → firstBond fault m k .code ≡ c → ⊥
+unfolding firstBond orAt
+scan-never c z fault f zero k e = z (sym e)
+scan-never c z fault f (suc m) k e = go (fault k) refl (scan-never c z fault f m (k + 1)) e
+  where
+    go : (d : ℕ) → fault k ≡ d → (firstBond fault m (k + 1) .code ≡ c → ⊥) → orAt d k (firstBond fault m (k + 1)) .code ≡ c → ⊥
+    go zero h ih e = ih e
+    go (suc d) h ih e = f k (h ∙ e)

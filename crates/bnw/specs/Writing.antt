@@ -1,0 +1,29 @@
+-- What comes of writing a network: the answer, and the lent bytes before and after.
+--
+--   tooShort t file               28: the lent bytes are fewer than the file has
+--   writeVerdict n t room         1, 4, 7 to 11, then 28, where `room` bytes are lent
+--   Writes n t before after w     refused, nothing is changed; accepted, the file stands first and the rest stays
+use mathlib.Core.Path.{_≡_}
+use mathlib.Core.List.{List, _++_}
+use Prim.Native.Nat.{ℕ, _*_}
+use lib.Dec.{ltb}
+use lib.ListN.{length, drop}
+use Rattle.network.specs.declared.Answer.{Answer}
+use Rattle.network.specs.Maxima.{places}
+use Rattle.network.specs.Verdict.{check, notAtoms, notLong, faults, accepted}
+use Rattle.bnw.specs.declared.Written.{Written}
+use Rattle.bnw.specs.File.{fileOf, bondsOf}
+
+unfoldable pub writeVerdict : ℕ → List ℕ → ℕ → Answer
+writeVerdict n t room =
+    check 1 (notAtoms n)
+    (check 4 (notLong t (places * n))
+    (faults n t
+    (check 28 (ltb room (length (fileOf n (bondsOf t))))
+    accepted)))
+
+pub record Writes (n : ℕ) (t before after : List ℕ) (w : Written) : Type 0 where
+  pub verdict : w .answer ≡ writeVerdict n t (length before)
+  pub refused : (w .answer .code ≡ 0 → ⊥) → (w .bytes ≡ 0) × (after ≡ before)
+  pub number : w .answer .code ≡ 0 → w .bytes ≡ length (fileOf n (bondsOf t))
+  pub written : w .answer .code ≡ 0 → after ≡ fileOf n (bondsOf t) ++ drop (w .bytes) before

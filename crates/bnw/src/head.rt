@@ -1,0 +1,77 @@
+// The head of a file: refusals 19 to 25, and the value that goes with 22 and 23.
+use crate::BONDS;
+use crate::bonds;
+use crate::fields;
+use network::Network;
+ghost use mathlib.Core.Path.{_≡_};
+ghost use Prim.Native.Nat.{ℕ, _≤_};
+ghost use lib.ListN.{length};
+ghost use Rattle.bnw.specs.File.{headLength};
+ghost use Rattle.bnw.specs.Reading.{marked, headFault, readValue};
+
+// The bytes before the bonds.
+pub const LENGTH: usize = 9;
+
+// The version that is read and written.
+pub const VERSION: usize = 1;
+
+// The first of refusals 19 to 25, or 0, where the table lent has `room` words.
+pub fn head_fault(file: &[u8], room: usize) -> u8
+    ensures { λ r. ⌜ r ≡ headFault (now (file .entry)) room ⌝ }
+{
+    if file.len() < LENGTH {
+        return 19;
+    }
+    if !marked(file) {
+        return 20;
+    }
+    if fields::field(file, 3) != VERSION {
+        return 21;
+    }
+    let atoms = fields::field(file, 5);
+    if atoms < 1 {
+        return 22;
+    }
+    if Network::ATOMS < atoms {
+        return 22;
+    }
+    let bonds = fields::field(file, 7);
+    if BONDS < bonds {
+        return 23;
+    }
+    if file.len() != LENGTH + bonds::LENGTH * bonds {
+        return 24;
+    }
+    if room < Network::PLACES * atoms {
+        return 25;
+    }
+    0
+}
+
+// Whether a file begins with the mark.
+fn marked(file: &[u8]) -> bool
+    requires { ⌜ headLength ≤ length (now file) ⌝ }
+    ensures { λ r. ⌜ r ≡ marked (now (file .entry)) ⌝ }
+{
+    if file[0] != b'B' {
+        return false;
+    }
+    if file[1] != b'N' {
+        return false;
+    }
+    file[2] == b'W'
+}
+
+// The count field that refusals 22 and 23 name, or 0.
+pub fn value_of(file: &[u8], code: u8) -> i32
+    requires { ⌜ ((code ≡ 19 → ⊥) → headLength ≤ length (now file)) ⌝ }
+    ensures { λ r. ⌜ r ≡ readValue (now (file .entry)) code ⌝ }
+{
+    if code == 22 {
+        return fields::signed(fields::field(file, 5));
+    }
+    if code == 23 {
+        return fields::signed(fields::field(file, 7));
+    }
+    0
+}
