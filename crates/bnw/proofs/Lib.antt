@@ -9,3 +9,4 @@ pub mod Writings
 pub mod Valid
 pub mod Decoded
 pub mod Readings
+pub mod Tables
