@@ -10,3 +10,4 @@ pub mod Valid
 pub mod Decoded
 pub mod Readings
 pub mod Tables
+pub mod Returns

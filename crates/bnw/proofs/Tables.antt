@@ -64,6 +64,7 @@ module _ (bonds : List Bond) (ordered : (b : Bond) → b ∈ bonds → b .first 
       alone [] l = tt
       alone (a ∷ []) l = (λ b m. absurd (List·Memᴰ·not-nil m), tt)
       alone (a ∷ b ∷ xs) l = absurd (omega arith)
+
       own : (b : Bond) → Ascending _<_ (partner x b)
       own b = alone (partner x b) (short (ℕ-discrete (b .first) x) (ℕ-discrete (b .second) x))
         where
@@ -71,6 +72,7 @@ module _ (bonds : List Bond) (ordered : (b : Bond) → b ∈ bonds → b .first 
           short (yes e) _ = omega (arith, ap length (partner-first x b _ refl e))
           short (no e) (yes d) = omega (arith, ap length (partner-second x b _ refl e _ refl d))
           short (no e) (no d) = omega (arith, ap length (partner-none x b _ refl e _ refl d))
+
       across : (a b : Bond) (u v : ℕ) → Earlier a b → a .first < a .second → b .first < b .second
           → ((a .first ≡ x) × (a .second ≡ u)) ⊎ ((a .second ≡ x) × (a .first ≡ u)) → ((b .first ≡ x) × (b .second ≡ v)) ⊎ ((b .second ≡ x) × (b .first ≡ v)) → u < v
       across a b u v (inl e) i j (inl p) (inl q) = absurd (omega (arith, p .0, q .0))
