@@ -76,9 +76,9 @@ module _ (file : List ℕ) (room : ℕ) where
                 )
 
             module _ (whole : length file ≡ headLength + bondLength * bonds) where
-              rest : headFault file room ≡ cond (ltb room (places * atoms)) 25 0
+              pub head-rest : headFault file room ≡ cond (ltb room (places * atoms)) 25 0
               unfolding headFault
-              rest =
+              head-rest =
                   rw (
                     le-ltb _ _ long,
                     ← em,
@@ -93,10 +93,10 @@ module _ (file : List ℕ) (room : ℕ) where
                   )
 
               pub head-25 : room < places * atoms → 25 ≡ headFault file room
-              head-25 h = sym (rest ∙ rw (lt-ltb _ _ h))
+              head-25 h = sym (head-rest ∙ rw (lt-ltb _ _ h))
 
               pub head-none : places * atoms ≤ room → 0 ≡ headFault file room
-              head-none h = sym (rest ∙ rw (le-ltb _ _ h))
+              head-none h = sym (head-rest ∙ rw (le-ltb _ _ h))
 
 -- the value that goes with an answer
 module _ (file : List ℕ) (code : ℕ) where

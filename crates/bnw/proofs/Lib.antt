@@ -11,3 +11,5 @@ pub mod Decoded
 pub mod Readings
 pub mod Tables
 pub mod Returns
+pub mod Accepted
+pub mod RoundTrips

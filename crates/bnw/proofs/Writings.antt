@@ -4,6 +4,7 @@ use mathlib.Core.Bool.{Bool, true, false, cond}
 use mathlib.Core.List.{List, [], _∷_, _++_}
 use Prim.Native.Nat.{ℕ, zero, suc, _+_, _-_, _*_, _≤_, _<_}
 use native.Mathlib.Omega.{arith}
+use native.Mathlib.Decide.{ℕ-discrete}
 use lib.Dec.{ltb}
 use lib.ListN.{length, drop, length-append}
 use lib.Seq.{sets}
@@ -41,6 +42,10 @@ module _ (n : ℕ) (t : List ℕ) (room : ℕ) where
       go true d z = refl
       go false true z = refl
       go false false z = sym (faults-kept n t _ z)
+
+  -- what is written is a network
+  pub writes-network : writeVerdict n t room .code ≡ 0 → IsNetwork n t
+  writes-network h = elim (ℕ-discrete (verdict n t .code) 0) [ yes z ↦ network-of n t z | no z ↦ absurd (z (ap code (refused-judged z) ∙ h)) ]
 
 -- what an accepted table bounds
 module _ (n : ℕ) (t : List ℕ) (a : Answer) (e : a ≡ verdict n t) (z : a .code ≡ 0) where

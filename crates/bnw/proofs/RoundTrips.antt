@@ -1,0 +1,172 @@
+-- Reading and writing are each other's way back, and each contract admits one outcome.
+--
+--   read-network      an accepted file gives a table that the validator accepts
+--   read-write        an accepted file, read and written again, gives the same bytes
+--   write-read        an accepted network, written and read again, gives the same table, atoms and bonds
+--   accepted-exactly  a file is accepted exactly when it is what writing makes of a network for which there is room
+--   reads-one         two outcomes of reading a file into a table are the same
+--   writes-one        two outcomes of writing a network into bytes are the same
+use mathlib.Core.Path.{_≡_, refl, sym, _∙_, ap, ap₂, subst}
+use mathlib.Core.Logic.{_↔_}
+use mathlib.Core.Bool.{Bool, true, false}
+use mathlib.Core.List.{List, [], _∷_, _++_}
+use Prim.Native.Nat.{ℕ, zero, suc, _+_, _-_, _*_, _≤_, _<_}
+use native.Mathlib.Omega.{arith}
+use native.Mathlib.Decide.{ℕ-discrete}
+use lib.IntN.{ℤ}
+use lib.ListN.{length, take, drop}
+use lib.Seq.{take-at}
+use borrow.Author.Tests.{le-ltb, lt-ltb}
+use Rattle.network.specs.declared.Answer.{Answer}
+use Rattle.network.specs.Maxima.{places}
+use Rattle.network.specs.Network.{IsNetwork}
+use Rattle.network.specs.Verdict.{accepted, verdict}
+use Rattle.network.proofs.Networks.{network-of, accepted-of}
+use Rattle.bnw.specs.declared.Reading.{Reading}
+use Rattle.bnw.specs.declared.Written.{Written}
+use Rattle.bnw.specs.File.{Bond, fileOf, tableOf, bondsOf, bondLength, headLength}
+use Rattle.bnw.specs.Reading.{field, bondIn, bondsBelow, readVerdict, readValue, ReadsAs, Reads}
+use Rattle.bnw.specs.Writing.{writeVerdict, Writes}
+use Rattle.bnw.proofs.Partners.{table-length}
+use Rattle.bnw.proofs.Writings.{network-judged, writes-network}
+use Rattle.bnw.proofs.Decoded.{atoms-field, bonds-field, bonds-read}
+use Rattle.bnw.proofs.Tables.{table-network}
+use Rattle.bnw.proofs.Returns.{bonds-valid, table-back, bonds-back}
+use Rattle.bnw.proofs.Accepted.{file-accepted, file-fits}
+
+abbrev code : Answer → ℕ
+code a = a .code
+
+-- the file gives its atoms and its bonds
+file-atoms : (n m : ℕ) (bonds more : List Bond) → fileOf n bonds ≡ fileOf m more → n ≡ m
+file-atoms n m bonds more e = sym (atoms-field n bonds) ∙ ap (λ (file : List ℕ). field file 5) e ∙ atoms-field m more
+
+file-bonds : (n m : ℕ) (bonds more : List Bond) → fileOf n bonds ≡ fileOf m more → bonds ≡ more
+file-bonds n m bonds more e =
+    sym (bonds-read n bonds) ∙ ap₂ (λ (file : List ℕ) (k : ℕ). bondsBelow (bondIn file) k) e (sym (bonds-field n bonds) ∙ ap (λ (file : List ℕ). field file 7) e ∙ bonds-field m more) ∙ bonds-read m more
+
+-- an accepted reading
+module _ (file before after : List ℕ) (r : Reading) (R : Reads file before after r) (z : r .answer .code ≡ 0) where
+  abbrev read-as : ReadsAs file before after r
+  read-as = R .accepts z
+
+  table-is : take (places * r .atoms) after ≡ tableOf (r .atoms) (read-as .list)
+  table-is =
+      ap (take (places * r .atoms)) (read-as .filled)
+      ∙ take-at (tableOf (r .atoms) (read-as .list)) (drop (places * r .atoms) before) (places * r .atoms) (table-length (read-as .list) (read-as .valid .eight) (r .atoms))
+
+  pub read-network : IsNetwork (r .atoms) (take (places * r .atoms) after)
+  read-network = subst (IsNetwork (r .atoms)) (sym table-is) (table-network (r .atoms) (read-as .list) (read-as .counted) (read-as .valid))
+
+  pub read-validates : verdict (r .atoms) (take (places * r .atoms) after) ≡ accepted
+  read-validates = accepted-of (r .atoms) (take (places * r .atoms) after) read-network
+
+  same-file : fileOf (r .atoms) (bondsOf (take (places * r .atoms) after)) ≡ file
+  same-file = ap (λ (t : List ℕ). fileOf (r .atoms) (bondsOf t)) table-is ∙ ap (fileOf (r .atoms)) (bonds-back (r .atoms) (read-as .list) (read-as .counted) (read-as .valid)) ∙ sym (read-as .format)
+
+  pub read-write : (lent written : List ℕ) (w : Written) → Writes (r .atoms) (take (places * r .atoms) after) lent written w → length file ≤ length lent
+      → (w .answer .code ≡ 0) × (w .bytes ≡ length file) × (take (w .bytes) written ≡ file)
+  read-write lent written w W h =
+      let e : length (fileOf (r .atoms) (bondsOf (take (places * r .atoms) after))) ≡ length file = ap length same-file in
+      let ok : w .answer .code ≡ 0 = ap code (W .verdict ∙ network-judged (r .atoms) (take (places * r .atoms) after) (length lent) read-network) ∙ rw (le-ltb (length lent) (length (fileOf (r .atoms) (bondsOf (take (places * r .atoms) after)))) (omega (arith, e))) refl in
+      (
+        ok,
+        W .number ok ∙ e,
+        ap (take (w .bytes)) (W .written ok) ∙ take-at (fileOf (r .atoms) (bondsOf (take (places * r .atoms) after))) (drop (w .bytes) lent) (w .bytes) (sym (W .number ok)) ∙ same-file,
+      )
+
+-- an accepted writing
+module _ (n : ℕ) (t lent written : List ℕ) (w : Written) (W : Writes n t lent written w) (z : w .answer .code ≡ 0) where
+  pub file-is : take (w .bytes) written ≡ fileOf n (bondsOf t)
+  file-is = ap (take (w .bytes)) (W .written z) ∙ take-at (fileOf n (bondsOf t)) (drop (w .bytes) lent) (w .bytes) (sym (W .number z))
+
+  network : IsNetwork n t
+  network = writes-network n t (length lent) (sym (ap code (W .verdict)) ∙ z)
+
+  pub write-read : (before after : List ℕ) (r : Reading) → Reads (take (w .bytes) written) before after r → places * n ≤ length before
+      → (r .answer .code ≡ 0) × (r .atoms ≡ n) × (r .bonds ≡ length (bondsOf t)) × (take (places * n) after ≡ t)
+  write-read before after r R h =
+      let ok : r .answer .code ≡ 0 =
+              ap code (R .verdict ∙ ap (λ (file : List ℕ). readVerdict file (length before)) file-is ∙ file-accepted n (bondsOf t) (network .counted) (bonds-valid n t network) (length before) h) in
+      let a = R .accepts ok in
+      let e : fileOf (r .atoms) (a .list) ≡ fileOf n (bondsOf t) = sym (a .format) ∙ file-is in
+      let same : r .atoms ≡ n = file-atoms (r .atoms) n (a .list) (bondsOf t) e in
+      let bonds : a .list ≡ bondsOf t = file-bonds (r .atoms) n (a .list) (bondsOf t) e in
+      (
+        ok,
+        same,
+        a .number ∙ ap length bonds,
+        ap (λ (k : ℕ). take (places * k) after) (sym same) ∙ table-is (take (w .bytes) written) before after r R ok ∙ ap₂ tableOf same bonds ∙ table-back n t network,
+      )
+
+-- a file of a network
+pub record FileOfNetwork (file : List ℕ) (room : ℕ) : Type 0 where
+  pub atoms : ℕ
+  pub table : List ℕ
+  pub network : IsNetwork atoms table
+  pub fits : places * atoms ≤ room
+  pub file-of : file ≡ fileOf atoms (bondsOf table)
+
+pub accepted-exactly : (file before after : List ℕ) (r : Reading) → Reads file before after r → (r .answer .code ≡ 0) ↔ FileOfNetwork file (length before)
+accepted-exactly file before after r R = (
+  λ z.
+      let a = R .accepts z in
+      record {
+        atoms = r .atoms;
+        table = tableOf (r .atoms) (a .list);
+        network = table-network (r .atoms) (a .list) (a .counted) (a .valid);
+        fits = file-fits (r .atoms) (a .list) (a .counted) (a .valid) (length before) (ap code (ap (λ (f : List ℕ). readVerdict f (length before)) (sym (a .format)) ∙ sym (R .verdict)) ∙ z);
+        file-of = a .format ∙ ap (fileOf (r .atoms)) (sym (bonds-back (r .atoms) (a .list) (a .counted) (a .valid)));
+      },
+  λ F. ap code (
+    R .verdict ∙ ap (λ (f : List ℕ). readVerdict f (length before)) (F .file-of)
+    ∙ file-accepted (F .atoms) (bondsOf (F .table)) (F .network .counted) (bonds-valid (F .atoms) (F .table) (F .network)) (length before) (F .fits)
+  ),
+)
+
+-- one outcome
+abbrev reading : Answer → ℕ → ℕ → ℤ → Reading
+reading a n m v = record { answer = a; atoms = n; bonds = m; value = v }
+
+pub reads-one : (file before one other : List ℕ) (r s : Reading) → Reads file before one r → Reads file before other s → (r ≡ s) × (one ≡ other)
+reads-one file before one other r s R S = go (ℕ-discrete (r .answer .code) 0)
+  where
+    answers : r .answer ≡ s .answer
+    answers = R .verdict ∙ sym (S .verdict)
+    values : r .value ≡ s .value
+    values = R .signs ∙ ap (λ (a : Answer). readValue file (a .code)) answers ∙ sym (S .signs)
+    same : r .atoms ≡ s .atoms → r .bonds ≡ s .bonds → r ≡ s
+    same n m = ap₂ (λ (a : Answer) (k : ℕ). reading a k (r .bonds) (r .value)) answers n ∙ ap₂ (λ (k : ℕ) (v : ℤ). reading (s .answer) (s .atoms) k v) m values
+    go : Dec (r .answer .code ≡ 0) → (r ≡ s) × (one ≡ other)
+    go (no z) =
+        let p = R .refused z in
+        let q = S .refused (λ h. z (ap code answers ∙ h)) in
+        (same (p .0 ∙ sym (q .0)) (p .1 ∙ sym (q .1)), p .2 ∙ sym (q .2))
+    go (yes z) =
+        let p = R .accepts z in
+        let q = S .accepts (sym (ap code answers) ∙ z) in
+        let e : fileOf (r .atoms) (p .list) ≡ fileOf (s .atoms) (q .list) = sym (p .format) ∙ q .format in
+        let atoms : r .atoms ≡ s .atoms = file-atoms (r .atoms) (s .atoms) (p .list) (q .list) e in
+        let bonds : p .list ≡ q .list = file-bonds (r .atoms) (s .atoms) (p .list) (q .list) e in
+        (
+          same atoms (p .number ∙ ap length bonds ∙ sym (q .number)),
+          p .filled ∙ ap₂ (λ (n : ℕ) (bonds : List Bond). tableOf n bonds ++ drop (places * n) before) atoms bonds ∙ sym (q .filled),
+        )
+
+abbrev writing : Answer → ℕ → Written
+writing a k = record { answer = a; bytes = k }
+
+pub writes-one : (n : ℕ) (t before one other : List ℕ) (w v : Written) → Writes n t before one w → Writes n t before other v → (w ≡ v) × (one ≡ other)
+writes-one n t before one other w v W U = go (ℕ-discrete (w .answer .code) 0)
+  where
+    answers : w .answer ≡ v .answer
+    answers = W .verdict ∙ sym (U .verdict)
+    go : Dec (w .answer .code ≡ 0) → (w ≡ v) × (one ≡ other)
+    go (no z) =
+        let p = W .refused z in
+        let q = U .refused (λ h. z (ap code answers ∙ h)) in
+        (ap₂ writing answers (p .0 ∙ sym (q .0)), p .1 ∙ sym (q .1))
+    go (yes z) =
+        let y : v .answer .code ≡ 0 = sym (ap code answers) ∙ z in
+        let same : w .bytes ≡ v .bytes = W .number z ∙ sym (U .number y) in
+        (ap₂ writing answers same, W .written z ∙ ap (λ (k : ℕ). fileOf n (bondsOf t) ++ drop k before) same ∙ sym (U .written y))
