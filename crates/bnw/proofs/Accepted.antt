@@ -1,8 +1,8 @@
 -- The file of valid bonds is accepted, and a network has no more bonds than a file may have.
 use mathlib.Core.Path.{_≡_, refl, sym, _∙_, ap, ap₂, subst}
 use mathlib.Core.Bool.{true, cond}
-use mathlib.Core.List.{List, [], _∷_, _++_, append-assoc, List·Memᴰ·head, List·Memᴰ·tail}
-use Prim.Native.Nat.{ℕ, zero, suc, _+_, _-_, _*_, _/_, _≤_, _<_}
+use mathlib.Core.List.{List, [], _∷_, _++_, List·Memᴰ·head, List·Memᴰ·tail}
+use Prim.Native.Nat.{ℕ, zero, suc, _+_, _-_, _*_, _≤_, _<_}
 use native.Mathlib.Numerals.{add-one}
 use native.Mathlib.Omega.{arith}
 use native.Mathlib.Decide.{decLt, ℕ-discrete}
@@ -11,11 +11,11 @@ use lib.ListN.{length, getD, length-append}
 use borrow.Author.Tests.{eq-eqb, ne-eqb, lt-ltb, le-ltb}
 use Rattle.graph.specs.Lists.{_∈_, gather, count}
 use Rattle.graph.proofs.Lists.{at-place}
-use Rattle.network.specs.Maxima.{atomsMost, places}
+use Rattle.network.specs.Maxima.{places}
 use Rattle.network.specs.Network.{Counted}
 use Rattle.network.specs.Verdict.{accepted}
-use Rattle.bnw.specs.File.{Bond, Earlier, version, bondsMost, headLength, bondLength, partner, partners, ValidBonds, fileOf}
-use Rattle.bnw.specs.Reading.{earlier, follows, bondIn, bondsBelow, bondFault, firstBond, orAt, headFault, readVerdict}
+use Rattle.bnw.specs.File.{Bond, Earlier, version, bondsMost, partner, partners, ValidBonds, fileOf}
+use Rattle.bnw.specs.Reading.{earlier, follows, bondIn, bondsBelow, bondFault, orAt, headFault, readVerdict}
 use Rattle.bnw.proofs.Runs.{length-more, gather-fits}
 use Rattle.bnw.proofs.Partners.{partner-first, partner-second, partners-fit}
 use Rattle.bnw.proofs.HeadFaults.{head-rest}
@@ -77,8 +77,10 @@ module _ (n : ℕ) (bonds : List Bond) (C : Counted n) (B : ValidBonds n bonds) 
     where
       fits : (x : ℕ) → length (partners (bondsBelow (bondIn (fileOf n bonds)) k) x) + length (partner x (bondIn (fileOf n bonds) k)) ≤ places
       fits x = omega (arith, partners-fit (bondIn (fileOf n bonds)) x k (length bonds) l, ap (λ (bs : List Bond). length (partners bs x)) (bonds-read n bonds), B .eight x)
+
       apart : bondIn (fileOf n bonds) k .first ≡ bondIn (fileOf n bonds) k .second → ⊥
       apart d = omega (arith, d, ap (λ (b : Bond). b .first) (bond-read n bonds k l), ap (λ (b : Bond). b .second) (bond-read n bonds k l), B .ordered (getD bonds k none) (at-place none bonds k l))
+
       after : Dec (k ≡ 0) → follows (bondIn (fileOf n bonds)) k ≡ true
       after (yes z) = rw (eq-eqb k 0 z)
       after (no z) =

@@ -1,17 +1,16 @@
 -- Refusals 19 to 25 at each way through the tests.
-use mathlib.Core.Path.{_≡_, refl, sym, _∙_, ap}
+use mathlib.Core.Path.{_≡_, sym, _∙_}
 use mathlib.Core.Bool.{Bool, true, false, not, cond}
 use mathlib.Core.List.{List}
-use Prim.Native.Nat.{ℕ, zero, suc, _+_, _-_, _*_, _≤_, _<_}
+use Prim.Native.Nat.{ℕ, _+_, _-_, _*_, _≤_, _<_}
 use native.Mathlib.Omega.{arith}
-use native.Mathlib.Decide.{decLe, decLt, ℕ-discrete}
 use lib.Dec.{eqb, ltb}
 use lib.IntN.{pos}
 use lib.ListN.{length, getD}
-use borrow.Author.Tests.{eq-eqb, ne-eqb, lt-ltb, le-ltb, le-leb, lt-leb}
+use borrow.Author.Tests.{eq-eqb, ne-eqb, lt-ltb, le-ltb}
 use Rattle.network.specs.Maxima.{atomsMost, places}
 use Rattle.bnw.specs.File.{mark, version, bondsMost, headLength, bondLength}
-use Rattle.bnw.specs.Reading.{field, signed, outside, marked, headFault, readValue}
+use Rattle.bnw.specs.Reading.{field, signed, marked, headFault, readValue}
 use Rattle.bnw.proofs.Signs.{below-outside, above-outside, not-outside}
 
 module _ (file : List ℕ) where

@@ -103,9 +103,6 @@ module _ (bond : ℕ → Bond) (x : ℕ) where
 
 -- a row: the partners, then free places
 module _ (bonds : List Bond) (x : ℕ) (l m o : List ℕ) (at : ℕ) (e : at ≡ places * x + length (partners bonds x)) (eight : length (partners bonds x) ≤ places) where
-  pub row-fits : at ≤ places * (x + 1)
-  row-fits = omega arith
-
   pub row-filled : m ≡ sets l (places * x) (partners bonds x) → o ≡ sets m at (replicate (places * (x + 1) - at) free) → o ≡ sets l (places * x) (rowOf bonds x)
   unfolding rowOf
   row-filled d h =

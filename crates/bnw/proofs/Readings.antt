@@ -2,19 +2,18 @@
 use mathlib.Core.Path.{_≡_, refl, sym, _∙_, ap}
 use mathlib.Core.Bool.{Bool, true, false, cond, _||_, _&&_, not}
 use mathlib.Core.List.{List, _++_}
-use Prim.Native.Nat.{ℕ, zero, suc, _+_, _-_, _*_, _≤_, _<_}
+use Prim.Native.Nat.{ℕ, _+_, _-_, _*_, _≤_, _<_}
 use native.Mathlib.Omega.{arith}
-use native.Mathlib.Decide.{decLe, decLt, ℕ-discrete}
+use native.Mathlib.Decide.{decLt, ℕ-discrete}
 use lib.IntN.{ℤ, pos}
 use lib.ListN.{length, drop}
 use lib.Seq.{sets}
 use Rattle.network.specs.declared.Answer.{Answer}
 use Rattle.network.specs.Maxima.{atomsMost, places}
 use Rattle.network.specs.Network.{Counted}
-use Rattle.network.specs.Verdict.{refusal, accepted, answer}
-use Rattle.bnw.specs.declared.Reading.{Reading}
-use Rattle.bnw.specs.File.{Bond, version, bondsMost, headLength, bondLength, partners, ValidBonds, tableOf, fileOf}
-use Rattle.bnw.specs.Reading.{field, Bytes, marked, inside, follows, full, bondIn, bondsBelow, bondFault, firstBond, orAt, headFault, readVerdict, readValue, ReadsAs, Reads}
+use Rattle.network.specs.Verdict.{refusal, answer}
+use Rattle.bnw.specs.File.{Bond, version, bondsMost, headLength, bondLength, partners, ValidBonds, tableOf}
+use Rattle.bnw.specs.Reading.{field, Bytes, marked, inside, follows, full, bondIn, bondsBelow, bondFault, firstBond, orAt, headFault, readVerdict, readValue, Reads}
 use Rattle.bnw.proofs.Runs.{sets-front}
 use Rattle.bnw.proofs.Partners.{table-length}
 use Rattle.bnw.proofs.BondFaults.{given}

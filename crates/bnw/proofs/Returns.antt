@@ -1,25 +1,24 @@
 -- There and back: from bonds to their table and its bonds, and from a network to its bonds and their table.
 use mathlib.Core.Path.{_≡_, refl, sym, _∙_, ap, ap₂, subst}
-use mathlib.Core.Logic.{_⊎_, inl, inr}
+use mathlib.Core.Logic.{inl, inr}
 use mathlib.Core.Bool.{Bool, true, false, not}
-use mathlib.Core.List.{List, [], _∷_, _++_, List·Memᴰ·head, List·Memᴰ·tail, List·Memᴰ·not-nil, List·Memᴰ·eq-of-singleton}
+use mathlib.Core.List.{List, [], _∷_, _++_, List·Memᴰ·head, List·Memᴰ·not-nil, List·Memᴰ·eq-of-singleton}
 use Prim.Native.Nat.{ℕ, zero, suc, _+_, _-_, _*_, _/_, _%_, _≤_, _<_, min}
 use native.Mathlib.Numerals.{add-one}
 use native.Mathlib.Omega.{arith}
 use native.Mathlib.Decide.{decLt, ℕ-discrete}
 use lib.Dec.{eqb}
-use lib.ListN.{length, getD, take, drop, replicate, length-append, length-take, length-drop}
+use lib.ListN.{length, getD, take, drop, replicate, length-take, length-drop}
 use lib.Seq.{getD-take, getD-drop, take-add, take-all}
 use borrow.Author.Tests.{eq-eqb, ne-eqb}
 use Rattle.graph.specs.Lists.{_∈_, Ascending, gather, count, keep, consIf}
-use Rattle.graph.proofs.Lists.{gather-of, gather-has, gather-ascending, count-of, count-has, count-ascending, ascending-unique}
-use Rattle.network.specs.Maxima.{atomsMost, places, free}
-use Rattle.network.specs.Network.{word, Holds, Bonded, Counted, IsNetwork, neighbours}
-use Rattle.network.proofs.Bonds.{bonded-neighbour, neighbour-bonded, bonded-from, bonded-to, bonded-back, bonded-other, finite}
+use Rattle.graph.proofs.Lists.{gather-of, gather-has, gather-ascending, count-of, count-has, ascending-unique}
+use Rattle.network.specs.Maxima.{places, free}
+use Rattle.network.specs.Network.{word, Bonded, Counted, IsNetwork, neighbours}
+use Rattle.network.proofs.Bonds.{bonded-neighbour, neighbour-bonded, bonded-to, bonded-back, bonded-other, finite}
 use Rattle.bnw.specs.File.{Bond, Earlier, bondAt, bondsOf, partners, ValidBonds, rowOf, tableOf}
-use Rattle.bnw.proofs.Runs.{gather-more, length-more, gather-fits}
+use Rattle.bnw.proofs.Runs.{gather-more}
 use Rattle.bnw.proofs.TableBonds.{bond-above, bond-below, bond-is}
-use Rattle.bnw.proofs.Partners.{row-length}
 use Rattle.bnw.proofs.Valid.{earlier-not, earlier-on}
 use Rattle.bnw.proofs.Tables.{bond, Joined, partners-of, partners-has, partners-ascend, joined-bonded, bonded-joined, table-network}
 

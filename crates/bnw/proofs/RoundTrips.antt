@@ -8,25 +8,24 @@
 --   writes-one        two outcomes of writing a network into bytes are the same
 use mathlib.Core.Path.{_≡_, refl, sym, _∙_, ap, ap₂, subst}
 use mathlib.Core.Logic.{_↔_}
-use mathlib.Core.Bool.{Bool, true, false}
-use mathlib.Core.List.{List, [], _∷_, _++_}
-use Prim.Native.Nat.{ℕ, zero, suc, _+_, _-_, _*_, _≤_, _<_}
+use mathlib.Core.List.{List, _++_}
+use Prim.Native.Nat.{ℕ, _+_, _-_, _*_, _≤_}
 use native.Mathlib.Omega.{arith}
 use native.Mathlib.Decide.{ℕ-discrete}
 use lib.IntN.{ℤ}
 use lib.ListN.{length, take, drop}
 use lib.Seq.{take-at}
-use borrow.Author.Tests.{le-ltb, lt-ltb}
+use borrow.Author.Tests.{le-ltb}
 use Rattle.network.specs.declared.Answer.{Answer}
 use Rattle.network.specs.Maxima.{places}
 use Rattle.network.specs.Network.{IsNetwork}
 use Rattle.network.specs.Verdict.{accepted, verdict}
-use Rattle.network.proofs.Networks.{network-of, accepted-of}
+use Rattle.network.proofs.Networks.{accepted-of}
 use Rattle.bnw.specs.declared.Reading.{Reading}
 use Rattle.bnw.specs.declared.Written.{Written}
-use Rattle.bnw.specs.File.{Bond, fileOf, tableOf, bondsOf, bondLength, headLength}
+use Rattle.bnw.specs.File.{Bond, fileOf, tableOf, bondsOf}
 use Rattle.bnw.specs.Reading.{field, bondIn, bondsBelow, readVerdict, readValue, ReadsAs, Reads}
-use Rattle.bnw.specs.Writing.{writeVerdict, Writes}
+use Rattle.bnw.specs.Writing.{Writes}
 use Rattle.bnw.proofs.Partners.{table-length}
 use Rattle.bnw.proofs.Writings.{network-judged, writes-network}
 use Rattle.bnw.proofs.Decoded.{atoms-field, bonds-field, bonds-read}
@@ -68,8 +67,7 @@ module _ (file before after : List ℕ) (r : Reading) (R : Reads file before aft
       → (w .answer .code ≡ 0) × (w .bytes ≡ length file) × (take (w .bytes) written ≡ file)
   read-write lent written w W h =
       let e : length (fileOf (r .atoms) (bondsOf (take (places * r .atoms) after))) ≡ length file = ap length same-file in
-      let ok : w .answer .code ≡ 0 = ap code (W .verdict ∙ network-judged (r .atoms) (take (places * r .atoms) after) (length lent) read-network) ∙ rw (le-ltb (length lent) (length (fileOf (r .atoms) (bondsOf (take (places * r .atoms) after)))) (omega (arith, e))) refl in
-      (
+      let ok : w .answer .code ≡ 0 = ap code (W .verdict ∙ network-judged (r .atoms) (take (places * r .atoms) after) (length lent) read-network) ∙ rw (le-ltb (length lent) (length (fileOf (r .atoms) (bondsOf (take (places * r .atoms) after)))) (omega (arith, e))) refl in (
         ok,
         W .number ok ∙ e,
         ap (take (w .bytes)) (W .written ok) ∙ take-at (fileOf (r .atoms) (bondsOf (take (places * r .atoms) after))) (drop (w .bytes) lent) (w .bytes) (sym (W .number ok)) ∙ same-file,
@@ -87,12 +85,11 @@ module _ (n : ℕ) (t lent written : List ℕ) (w : Written) (W : Writes n t len
       → (r .answer .code ≡ 0) × (r .atoms ≡ n) × (r .bonds ≡ length (bondsOf t)) × (take (places * n) after ≡ t)
   write-read before after r R h =
       let ok : r .answer .code ≡ 0 =
-              ap code (R .verdict ∙ ap (λ (file : List ℕ). readVerdict file (length before)) file-is ∙ file-accepted n (bondsOf t) (network .counted) (bonds-valid n t network) (length before) h) in
+      ap code (R .verdict ∙ ap (λ (file : List ℕ). readVerdict file (length before)) file-is ∙ file-accepted n (bondsOf t) (network .counted) (bonds-valid n t network) (length before) h) in
       let a = R .accepts ok in
       let e : fileOf (r .atoms) (a .list) ≡ fileOf n (bondsOf t) = sym (a .format) ∙ file-is in
       let same : r .atoms ≡ n = file-atoms (r .atoms) n (a .list) (bondsOf t) e in
-      let bonds : a .list ≡ bondsOf t = file-bonds (r .atoms) n (a .list) (bondsOf t) e in
-      (
+      let bonds : a .list ≡ bondsOf t = file-bonds (r .atoms) n (a .list) (bondsOf t) e in (
         ok,
         same,
         a .number ∙ ap length bonds,
@@ -119,9 +116,9 @@ accepted-exactly file before after r R = (
         file-of = a .format ∙ ap (fileOf (r .atoms)) (sym (bonds-back (r .atoms) (a .list) (a .counted) (a .valid)));
       },
   λ F. ap code (
-    R .verdict ∙ ap (λ (f : List ℕ). readVerdict f (length before)) (F .file-of)
-    ∙ file-accepted (F .atoms) (bondsOf (F .table)) (F .network .counted) (bonds-valid (F .atoms) (F .table) (F .network)) (length before) (F .fits)
-  ),
+      R .verdict ∙ ap (λ (f : List ℕ). readVerdict f (length before)) (F .file-of)
+      ∙ file-accepted (F .atoms) (bondsOf (F .table)) (F .network .counted) (bonds-valid (F .atoms) (F .table) (F .network)) (length before) (F .fits)
+      ),
 )
 
 -- one outcome
@@ -133,10 +130,13 @@ reads-one file before one other r s R S = go (ℕ-discrete (r .answer .code) 0)
   where
     answers : r .answer ≡ s .answer
     answers = R .verdict ∙ sym (S .verdict)
+
     values : r .value ≡ s .value
     values = R .signs ∙ ap (λ (a : Answer). readValue file (a .code)) answers ∙ sym (S .signs)
+
     same : r .atoms ≡ s .atoms → r .bonds ≡ s .bonds → r ≡ s
     same n m = ap₂ (λ (a : Answer) (k : ℕ). reading a k (r .bonds) (r .value)) answers n ∙ ap₂ (λ (k : ℕ) (v : ℤ). reading (s .answer) (s .atoms) k v) m values
+
     go : Dec (r .answer .code ≡ 0) → (r ≡ s) × (one ≡ other)
     go (no z) =
         let p = R .refused z in
@@ -147,8 +147,7 @@ reads-one file before one other r s R S = go (ℕ-discrete (r .answer .code) 0)
         let q = S .accepts (sym (ap code answers) ∙ z) in
         let e : fileOf (r .atoms) (p .list) ≡ fileOf (s .atoms) (q .list) = sym (p .format) ∙ q .format in
         let atoms : r .atoms ≡ s .atoms = file-atoms (r .atoms) (s .atoms) (p .list) (q .list) e in
-        let bonds : p .list ≡ q .list = file-bonds (r .atoms) (s .atoms) (p .list) (q .list) e in
-        (
+        let bonds : p .list ≡ q .list = file-bonds (r .atoms) (s .atoms) (p .list) (q .list) e in (
           same atoms (p .number ∙ ap length bonds ∙ sym (q .number)),
           p .filled ∙ ap₂ (λ (n : ℕ) (bonds : List Bond). tableOf n bonds ++ drop (places * n) before) atoms bonds ∙ sym (q .filled),
         )
@@ -161,6 +160,7 @@ writes-one n t before one other w v W U = go (ℕ-discrete (w .answer .code) 0)
   where
     answers : w .answer ≡ v .answer
     answers = W .verdict ∙ sym (U .verdict)
+
     go : Dec (w .answer .code ≡ 0) → (w ≡ v) × (one ≡ other)
     go (no z) =
         let p = W .refused z in

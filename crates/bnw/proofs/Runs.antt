@@ -1,12 +1,11 @@
 -- Runs of stores, and lists gathered one number after another.
 use mathlib.Core.Path.{_≡_, refl, sym, _∙_, ap}
 use mathlib.Core.List.{List, [], _∷_, _++_, map, append-assoc, append-nil}
-use Prim.Native.Nat.{ℕ, zero, suc, _+_, _-_, _*_, _≤_, _<_}
-use native.Mathlib.Nat.{sub-zero}
+use Prim.Native.Nat.{ℕ, zero, suc, _+_, _-_, _≤_, _<_}
 use native.Mathlib.Numerals.{add-one}
 use native.Mathlib.Omega.{arith}
 use native.Mathlib.Decide.{ℕ-discrete}
-use lib.ListN.{length, drop, take, set, replicate, length-append, length-replicate, replicate-append-replicate}
+use lib.ListN.{length, drop, set, replicate, length-append, length-replicate, replicate-append-replicate}
 use lib.Seq.{sets, sets-eq}
 use Rattle.graph.specs.Lists.{gather, count}
 

@@ -1,15 +1,15 @@
 -- The table that valid bonds define is a network, with these bonds and no others.
 use mathlib.Core.Path.{_≡_, refl, sym, _∙_, ap, ap₂, subst}
-use mathlib.Core.Logic.{_⊎_, inl, inr, _↔_}
-use mathlib.Core.List.{List, [], _∷_, _++_, List·Memᴰ·head, List·Memᴰ·tail, List·Memᴰ·not-nil, List·Memᴰ·eq-of-singleton}
+use mathlib.Core.Logic.{_⊎_, inl, inr}
+use mathlib.Core.List.{List, [], _∷_, List·Memᴰ·head, List·Memᴰ·tail, List·Memᴰ·not-nil, List·Memᴰ·eq-of-singleton}
 use Prim.Native.Nat.{ℕ, zero, suc, _+_, _-_, _*_, _≤_, _<_}
 use native.Mathlib.Omega.{arith}
 use native.Mathlib.Decide.{decLt, ℕ-discrete}
-use lib.ListN.{length, getD, replicate, length-append, length-replicate, getD-replicate, List·getD-append}
+use lib.ListN.{length, getD, replicate, getD-replicate, List·getD-append}
 use lib.Seq.{getD-append-add}
 use Rattle.graph.specs.Lists.{_∈_, Ascending, gather, count}
 use Rattle.graph.proofs.Lists.{gather-of, gather-has, gather-ascending, place-of, at-place}
-use Rattle.network.specs.Maxima.{atomsMost, places, free}
+use Rattle.network.specs.Maxima.{places, free}
 use Rattle.network.specs.Network.{word, Holds, Bonded, Counted, IsNetwork}
 use Rattle.bnw.specs.File.{Bond, Earlier, partner, partners, ValidBonds, rowOf, tableOf}
 use Rattle.bnw.proofs.Partners.{partner-first, partner-second, partner-none, row-length, table-length}

@@ -1,19 +1,19 @@
 -- Bonds without a fault are valid bonds.
 use mathlib.Core.Path.{_≡_, refl, sym, _∙_, ap, subst}
-use mathlib.Core.Logic.{_⊎_, inl, inr}
-use mathlib.Core.Bool.{Bool, true, false, not}
-use mathlib.Core.List.{List, [], _∷_, _++_, map, List·Memᴰ·eq-of-singleton, List·Memᴰ·not-nil}
-use Prim.Native.Nat.{ℕ, zero, suc, _+_, _-_, _*_, _≤_, _<_}
+use mathlib.Core.Logic.{inl, inr}
+use mathlib.Core.Bool.{Bool, true, false}
+use mathlib.Core.List.{List, [], _∷_, List·Memᴰ·eq-of-singleton, List·Memᴰ·not-nil}
+use Prim.Native.Nat.{ℕ, zero, suc, _+_, _-_, _≤_, _<_}
 use native.Mathlib.Numerals.{add-one}
 use native.Mathlib.Omega.{arith}
 use native.Mathlib.Decide.{decLe, decLt, ℕ-discrete}
 use lib.ListN.{length, length-append}
 use borrow.Author.Tests.{eq-eqb, ne-eqb, lt-ltb, le-ltb}
 use Rattle.graph.specs.Lists.{_∈_, Ascending, count}
-use Rattle.graph.proofs.Lists.{map-of, map-has, count-of, count-has, append-ascending}
+use Rattle.graph.proofs.Lists.{map-of, count-of, append-ascending}
 use Rattle.network.specs.declared.Answer.{Answer}
 use Rattle.network.specs.Maxima.{places}
-use Rattle.network.specs.Verdict.{answer, accepted}
+use Rattle.network.specs.Verdict.{accepted}
 use Rattle.bnw.specs.File.{Bond, Earlier, partner, partners, ValidBonds}
 use Rattle.bnw.specs.Reading.{earlier, follows, bondsBelow, bondFault, orAt, firstBond}
 use Rattle.bnw.proofs.Runs.{map-more}

@@ -1,12 +1,12 @@
 -- What comes of writing, at each way through the checks.
 use mathlib.Core.Path.{_≡_, refl, sym, _∙_, ap}
-use mathlib.Core.Bool.{Bool, true, false, cond}
-use mathlib.Core.List.{List, [], _∷_, _++_}
-use Prim.Native.Nat.{ℕ, zero, suc, _+_, _-_, _*_, _≤_, _<_}
+use mathlib.Core.Bool.{Bool, true, false}
+use mathlib.Core.List.{List, _++_}
+use Prim.Native.Nat.{ℕ, _+_, _-_, _*_, _≤_, _<_}
 use native.Mathlib.Omega.{arith}
 use native.Mathlib.Decide.{ℕ-discrete}
 use lib.Dec.{ltb}
-use lib.ListN.{length, drop, length-append}
+use lib.ListN.{length, drop}
 use lib.Seq.{sets}
 use borrow.Author.Tests.{lt-ltb, le-ltb}
 use Rattle.graph.specs.Lists.{gather}
@@ -16,7 +16,6 @@ use Rattle.network.specs.Network.{IsNetwork}
 use Rattle.network.specs.Verdict.{verdict, faults, check, notAtoms, notLong, accepted, refusal}
 use Rattle.network.proofs.Verdicts.{atoms, long, faults-kept}
 use Rattle.network.proofs.Networks.{network-of, faultless-of, accepted-of}
-use Rattle.bnw.specs.declared.Written.{Written}
 use Rattle.bnw.specs.File.{Bond, fileOf, headOf, bondsOf, bondBytes, headLength, bondLength}
 use Rattle.bnw.specs.Writing.{writeVerdict, Writes}
 use Rattle.bnw.proofs.Runs.{sets-after, sets-front}

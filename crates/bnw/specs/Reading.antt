@@ -1,6 +1,7 @@
 -- What comes of reading a file: the answer, and the lent table before and after.
 --
 --   field file i               the two bytes from i on, little-endian, unsigned
+--   versionIn, atomsIn, bondsIn   the fields of the head: bytes 3 and 4, 5 and 6, 7 and 8
 --   Bytes file                 every element is a byte
 --   signed v                   a 16-bit field in two's complement
 --   outside low high k         k is not from low to high
@@ -34,6 +35,15 @@ use Rattle.bnw.specs.File.{Bond, mark, version, bondsMost, headLength, b
 abbrev pub field : List ℕ → ℕ → ℕ
 field file i = getD file i 0 + 256 * getD file (i + 1) 0
 
+abbrev pub versionIn : List ℕ → ℕ
+versionIn file = field file 3
+
+abbrev pub atomsIn : List ℕ → ℕ
+atomsIn file = field file 5
+
+abbrev pub bondsIn : List ℕ → ℕ
+bondsIn file = field file 7
+
 unfoldable pub Bytes : List ℕ → Type 0
 Bytes file = (i : ℕ) → getD file i 0 < 256
 
@@ -51,11 +61,11 @@ unfoldable pub headFault : List ℕ → ℕ → ℕ
 headFault file room =
     cond (ltb (length file) headLength) 19
     (cond (not (marked file)) 20
-    (cond (not (eqb (field file 3) version)) 21
-    (cond (outside 1 atomsMost (signed (field file 5))) 22
-    (cond (outside 0 bondsMost (signed (field file 7))) 23
-    (cond (not (eqb (length file) (headLength + bondLength * field file 7))) 24
-    (cond (ltb room (places * field file 5)) 25
+    (cond (not (eqb (versionIn file) version)) 21
+    (cond (outside 1 atomsMost (signed (atomsIn file))) 22
+    (cond (outside 0 bondsMost (signed (bondsIn file))) 23
+    (cond (not (eqb (length file) (headLength + bondLength * bondsIn file))) 24
+    (cond (ltb room (places * atomsIn file)) 25
     0))))))
 
 abbrev pub bondIn : List ℕ → ℕ → Bond
@@ -94,10 +104,10 @@ firstBond fault zero k = accepted
 firstBond fault (suc m) k = orAt (fault k) k (firstBond fault m (k + 1))
 
 unfoldable pub readVerdict : List ℕ → ℕ → Answer
-readVerdict file room = orAt (headFault file room) 0 (firstBond (bondFault (field file 5) (bondIn file)) (field file 7) 0)
+readVerdict file room = orAt (headFault file room) 0 (firstBond (bondFault (atomsIn file) (bondIn file)) (bondsIn file) 0)
 
 unfoldable pub readValue : List ℕ → ℕ → ℤ
-readValue file code = cond (eqb code 22) (signed (field file 5)) (cond (eqb code 23) (signed (field file 7)) (pos 0))
+readValue file code = cond (eqb code 22) (signed (atomsIn file)) (cond (eqb code 23) (signed (bondsIn file)) (pos 0))
 
 pub record ReadsAs (file before after : List ℕ) (r : Reading) : Type 0 where
   pub list : List Bond

@@ -4,11 +4,10 @@ use crate::head;
 use network::Answer;
 use network::Network;
 ghost use mathlib.Core.Path.{_≡_};
-ghost use mathlib.Core.Bool.{Bool};
-ghost use Prim.Native.Nat.{ℕ, suc, _+_, _*_, _≤_, _<_};
+ghost use Prim.Native.Nat.{suc, _+_, _*_, _≤_, _<_};
 ghost use lib.ListN.{length};
-ghost use Rattle.bnw.specs.File.{Bond, partner, partners, headLength, bondLength};
-ghost use Rattle.bnw.specs.Reading.{bondIn, bondsBelow, inside, follows, earlier, full, bondFault, firstBond};
+ghost use Rattle.bnw.specs.File.{partner, partners, headLength, bondLength};
+ghost use Rattle.bnw.specs.Reading.{bondIn, bondsBelow, follows, bondFault, firstBond};
 
 // The bytes of a bond.
 pub const LENGTH: usize = 4;

@@ -4,9 +4,8 @@ use crate::fields;
 use crate::head;
 use network::Network;
 ghost use mathlib.Core.Path.{_≡_};
-ghost use mathlib.Core.List.{List, _++_};
-ghost use Prim.Native.Nat.{ℕ, suc, _+_, _*_, _≤_, _<_};
-ghost use lib.ListN.{length, take};
+ghost use Prim.Native.Nat.{_+_, _*_, _≤_, _<_};
+ghost use lib.ListN.{length};
 ghost use lib.Seq.{sets};
 ghost use Rattle.graph.specs.Lists.{gather};
 ghost use Rattle.network.specs.Maxima.{atomsMost, places};
@@ -47,9 +46,9 @@ pub fn write_head(n: usize, bonds: usize, file: &mut [u8])
     ensures { λ _. ⌜ now (file .exit) ≡ sets (now (file .entry)) 0 (headOf n bonds) ⌝ }
 {
     write_mark(file);
-    fields::put_field(head::VERSION, file, 3);
-    fields::put_field(n, file, 5);
-    fields::put_field(bonds, file, 7);
+    fields::put_field(head::VERSION, file, head::VERSION_AT);
+    fields::put_field(n, file, head::ATOMS_AT);
+    fields::put_field(bonds, file, head::BONDS_AT);
 }
 
 // Writes the mark.

@@ -4,7 +4,7 @@ use crate::bonds;
 use crate::fields;
 use network::Network;
 ghost use mathlib.Core.Path.{_≡_};
-ghost use Prim.Native.Nat.{ℕ, _≤_};
+ghost use Prim.Native.Nat.{_≤_};
 ghost use lib.ListN.{length};
 ghost use Rattle.bnw.specs.File.{headLength};
 ghost use Rattle.bnw.specs.Reading.{marked, headFault, readValue};
@@ -14,6 +14,13 @@ pub const LENGTH: usize = 9;
 
 // The version that is read and written.
 pub const VERSION: usize = 1;
+
+// Where the version, the count of atoms and the count of bonds stand.
+pub const VERSION_AT: usize = 3;
+
+pub const ATOMS_AT: usize = 5;
+
+pub const BONDS_AT: usize = 7;
 
 // The first of refusals 19 to 25, or 0, where the table lent has `room` words.
 pub fn head_fault(file: &[u8], room: usize) -> u8
@@ -25,17 +32,17 @@ pub fn head_fault(file: &[u8], room: usize) -> u8
     if !marked(file) {
         return 20;
     }
-    if fields::field(file, 3) != VERSION {
+    if fields::field(file, VERSION_AT) != VERSION {
         return 21;
     }
-    let atoms = fields::field(file, 5);
+    let atoms = fields::field(file, ATOMS_AT);
     if atoms < 1 {
         return 22;
     }
     if Network::ATOMS < atoms {
         return 22;
     }
-    let bonds = fields::field(file, 7);
+    let bonds = fields::field(file, BONDS_AT);
     if BONDS < bonds {
         return 23;
     }
@@ -68,10 +75,10 @@ pub fn value_of(file: &[u8], code: u8) -> i32
     ensures { λ r. ⌜ r ≡ readValue (now (file .entry)) code ⌝ }
 {
     if code == 22 {
-        return fields::signed(fields::field(file, 5));
+        return fields::signed(fields::field(file, ATOMS_AT));
     }
     if code == 23 {
-        return fields::signed(fields::field(file, 7));
+        return fields::signed(fields::field(file, BONDS_AT));
     }
     0
 }

@@ -9,7 +9,6 @@ mod rows;
 
 use network::Answer;
 use network::Network;
-ghost use mathlib.Core.Path.{_≡_};
 ghost use Rattle.bnw.specs.Reading.{Reads};
 ghost use Rattle.bnw.specs.Writing.{Writes};
 
@@ -44,8 +43,8 @@ pub fn read(file: &[u8], table: &mut [u16]) -> Reading
             value: value,
         };
     }
-    let atoms = fields::field(file, 5);
-    let bonds = fields::field(file, 7);
+    let atoms = fields::field(file, head::ATOMS_AT);
+    let bonds = fields::field(file, head::BONDS_AT);
     let answer = bonds::bond_faults(atoms, file, bonds);
     if answer.code != 0 {
         return Reading {
@@ -68,10 +67,10 @@ pub fn read(file: &[u8], table: &mut [u16]) -> Reading
 pub fn write(n: usize, table: &[u16], file: &mut [u8]) -> Written
     ensures { λ r. ⌜ Writes n (now (table .entry)) (now (file .entry)) (now (file .exit)) r ⌝ }
 {
-    let answer = network::validate(n, table);
-    if answer.code != 0 {
+    let verdict = network::validate(n, table);
+    if verdict.code != 0 {
         return Written {
-            answer: answer,
+            answer: verdict,
             bytes: 0,
         };
     }
@@ -86,7 +85,7 @@ pub fn write(n: usize, table: &[u16], file: &mut [u8]) -> Written
     bytes::write_head(n, bonds, file);
     bytes::write_bonds(table, file);
     Written {
-        answer: answer,
+        answer: verdict,
         bytes: length,
     }
 }
