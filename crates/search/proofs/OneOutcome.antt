@@ -15,8 +15,7 @@ use Rattle.network.specs.Network.{Bonded}
 use Rattle.network.specs.Verdict.{check, accepted}
 use Rattle.distance.proofs.Outcomes.{table-unique}
 use Rattle.search.specs.declared.Census.{Census}
-use Rattle.search.specs.State.{encode}
-use Rattle.search.specs.Census.{limitOf, beforeSearch, afterCount, afterList, settled, Searched, Outcome, CountOutcome, ListOutcome}
+use Rattle.search.specs.Census.{encode, limitOf, beforeSearch, afterCount, afterList, settled, Searched, Outcome, CountOutcome, ListOutcome}
 
 abbrev code : Census → ℕ
 code c = c .answer .code

@@ -15,11 +15,11 @@ use Rattle.network.specs.Verdict.{refusal}
 use Rattle.ring.specs.Maxima.{ringLeast, ringMost, allowanceMost}
 use Rattle.search.specs.declared.Census.{Census}
 use Rattle.search.specs.declared.grow.Tally.{Tally}
-use Rattle.search.specs.Census.{limitOf, afterCount, afterList, countsOf, censusWith, censusOf, noCensus, settled, Outcome, CountOutcome, ListOutcome}
+use Rattle.search.specs.Census.{encode, limitOf, afterCount, afterList, countsOf, censusWith, censusOf, noCensus, settled, Outcome, CountOutcome, ListOutcome}
 use Rattle.search.specs.Prepared.{Prepared}
 use Rattle.search.specs.Search.{ringsUpTo}
 use Rattle.search.specs.Turn.{mayFollow}
-use Rattle.search.specs.State.{encode, Fits, Net, Tallied}
+use Rattle.search.specs.State.{Fits, Net, Tallied}
 use Rattle.search.proofs.Passed.{Passed, reached-exactly}
 use Rattle.search.proofs.Listed.{right-as-far, the-listing}
 use Rattle.search.proofs.Counts.{counts-all}

@@ -2,6 +2,7 @@
 --
 --   limitOf limit               the limit used: 0 stands for the default
 --   beforeSearch n t limit allowance d    the refusals that come before the search: 1, 2, 3, 4, 5, then 7 to 11
+--   encode rings                rings as they are listed, one after another: each its length, then its atoms
 --   afterCount allowance rings            12: more rings than the allowance
 --   afterList allowance room rings        12, then 13: more words than there is room for
 --   ofLength k rings            how many of the rings have k atoms
@@ -17,7 +18,7 @@
 --                               refused, it stays as it is
 use mathlib.Core.Path.{_≡_}
 use mathlib.Core.Bool.{Bool, _&&_, _||_, not, cond}
-use mathlib.Core.List.{List, map}
+use mathlib.Core.List.{List, [], _∷_, _++_, map}
 use Prim.Native.Nat.{ℕ, _+_, _-_, _*_}
 use lib.Dec.{eqb, leb, ltb}
 use lib.ListN.{length, replicate}
@@ -31,7 +32,6 @@ use Rattle.network.specs.Verdict.{check, notAtoms, notLong, faults, accepted}
 use Rattle.distance.specs.Distances.{DistanceTable}
 use Rattle.ring.specs.Maxima.{ringLeast, ringMost, limitDefault, allowanceMost}
 use Rattle.search.specs.declared.Census.{Census}
-use Rattle.search.specs.State.{encode}
 use Rattle.search.specs.Averages.{averagesOf, noAverages}
 
 unfoldable pub limitOf : ℕ → ℕ
@@ -51,6 +51,10 @@ beforeSearch n t limit allowance d =
     (check 4 (notLong t (places * n))
     (check 5 (notLong d (n * n))
     (faults n t accepted)))))
+
+unfoldable pub encode : List (List ℕ) → List ℕ
+encode [] = []
+encode (r ∷ rs) = length r ∷ (r ++ encode rs)
 
 abbrev pub afterCount : ℕ → List (List ℕ) → Answer
 afterCount allowance rings = check 12 (ltb allowance (length rings)) accepted

@@ -4,7 +4,7 @@
 --   Shortest n table dist k r    a ring of k atoms in its one writing, each pair at ring distance in the buffer
 --   Harmless n table dist k may  a test never turns back from a path that a shortest-path ring goes on with
 --   RightAsFar most n t dist     the buffer is right for every distance as far as `most`
---   Ends table n                 in a row no atom stands after a free place
+--   Ends n table                 in a row no atom stands after a free place
 use mathlib.Core.Path.{_≡_}
 use mathlib.Core.Bool.{true}
 use mathlib.Core.Logic.{_↔_}

@@ -1,21 +1,21 @@
 -- What the search has found so far: the count, and the list that it writes.
 --
---   encode rs            rings as they are listed, one after another: each its length, then its atoms
 --   wrote ring s         a ring is counted, with the words that it takes, and written where it fits
 --   note a ring s        a ring is noted, unless the allowance a is used up
 --   noteAll a rings s    one after another
 --   none                 nothing found yet
+--   Fits f               the words taken are at most a longest ring's for each ring
 --   PathIn n words len   of the words of a path the first `len` are atoms below n
 --   Given .. len         the distances of n atoms, and a path of them that is to be a ring of k
 --   Net n table dist k   a network with its distances, and a ring's length
 --   Grows .. left        a path that lacks `left` atoms of a ring of k
---   Notes a xs ..        what a step of the search does that notes the rings xs, with the words taken at most a whole ring's for each ring
+--   Notes a xs ..        what a step of the search does that notes the rings xs
 --   Grew a xs ..         and of the words that hold the path the first `len` are as they were
 --   Tallied ..           what the whole search does: every ring of the m least lengths is noted, and, where there are no more than the allowance, the counts are right
 use mathlib.Core.Path.{_≡_}
 use Prim.Native.Nat.{ℕ, zero, suc, _+_, _-_, _*_, _<_, _≤_}
 use mathlib.Core.Bool.{Bool, true, false, cond}
-use mathlib.Core.List.{List, [], _∷_, _++_}
+use mathlib.Core.List.{List, [], _∷_}
 use lib.ListN.{length, getD, take}
 use lib.Seq.{sets}
 use lib.Dec.{ltb}
@@ -25,10 +25,6 @@ use Rattle.search.specs.Search.{ringsUpTo, countsUpTo}
 use Rattle.search.specs.Turn.{mayFollow}
 use Rattle.search.specs.declared.note.Found.{Found}
 use Rattle.search.specs.declared.grow.Tally.{Tally}
-
-unfoldable pub encode : List (List ℕ) → List ℕ
-encode [] = []
-encode (r ∷ rs) = length r ∷ (r ++ encode rs)
 
 pub record State : Type 0 where
   pub found : Found
@@ -56,7 +52,6 @@ noteAll allowance (r ∷ rs) s = noteAll allowance rs (note allowance r s)
 abbrev pub none : Found
 none = record { rings = 0; at = 0; over = false }
 
--- the words taken are at most a longest ring's for each ring
 abbrev pub Fits : Found → Type 0
 Fits f = f .at ≤ (ringMost + 1) * f .rings
 
