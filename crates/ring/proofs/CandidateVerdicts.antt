@@ -112,9 +112,6 @@ module _ (n : ℕ) (t r d : List ℕ) where
           pub says-rest : (b : Answer) → b ≡ verdict n t → b .code ≡ 0 → a ≡ ringVerdict n t r → a ≡ candidateVerdict n t r d
           says-rest b h y k = k ∙ sym (verdict-rest (some-atoms n m e z) whole room ∙ faultless-of n t (network-of n t (ap code (sym h) ∙ y)) (ringVerdict n t r))
 
-pub is-network : (n : ℕ) (t : List ℕ) (a : Answer) → a ≡ verdict n t → a .code ≡ 0 → IsNetwork n t
-is-network n t a h z = network-of n t (ap code (sym h) ∙ z)
-
 -- no place is bad
 module _ (bad : ℕ → Bool) (k : ℕ) where
   pub none-bad : (x : ℕ) → x ≡ firstOf bad k 0 → k ≤ x → (i : ℕ) → i < k → bad i ≡ false
@@ -139,7 +136,7 @@ row-inside n t r i whole below l = omega (arith, whole, below i l)
 
 -- a row holds an atom where the search through it stops
 module _ (n : ℕ) (t : List ℕ) (N : IsNetwork n t) (x y : ℕ) where
-  bonded-of : x < n → y < n → placeOf t x y < places → Bonded t x y
+  pub bonded-of : x < n → y < n → placeOf t x y < places → Bonded t x y
   bonded-of lx ly l =
       let F = first-of (λ p. eqb (word t x p) y) places 0 in
       record {
@@ -150,7 +147,7 @@ module _ (n : ℕ) (t : List ℕ) (N : IsNetwork n t) (x y : ℕ) where
         atom = λ e. omega (arith, N .counted .most);
       }
 
-  of-bonded : Bonded t x y → placeOf t x y < places
+  pub of-bonded : Bonded t x y → placeOf t x y < places
   of-bonded b =
       let F = first-of (λ p. eqb (word t x p) y) places 0 in
       elim (decLt (placeOf t x y) places) [
@@ -159,12 +156,12 @@ module _ (n : ℕ) (t : List ℕ) (N : IsNetwork n t) (x y : ℕ) where
       ]
 
 -- 16: none is seen earlier
-different-of : (r : List ℕ) (j : ℕ) → seen r j ≡ false → (i : ℕ) → i < j → getD r i 0 ≢ getD r j 0
+pub different-of : (r : List ℕ) (j : ℕ) → seen r j ≡ false → (i : ℕ) → i < j → getD r i 0 ≢ getD r j 0
 different-of r j h i l e =
     let F = first-of (λ i. eqb (getD r i 0) (getD r j 0)) j 0 in
     eqb-false (getD r i 0) (getD r j 0) (F .none i (omega arith) (omega (arith, ltb-false (firstWith r j) j h))) e
 
-of-different : (r : List ℕ) (j : ℕ) → ((i : ℕ) → i < j → getD r i 0 ≢ getD r j 0) → seen r j ≡ false
+pub of-different : (r : List ℕ) (j : ℕ) → ((i : ℕ) → i < j → getD r i 0 ≢ getD r j 0) → seen r j ≡ false
 of-different r j h =
     let F = first-of (λ i. eqb (getD r i 0) (getD r j 0)) j 0 in
     elim (decLt (firstWith r j) j) [

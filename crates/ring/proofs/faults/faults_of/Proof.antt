@@ -1,8 +1,8 @@
 use native.Mathlib.Omega.{arith}
 use borrow.Author.Needs.{needs}
 use Rattle.network.proofs.Verdicts.{some-atoms}
-use Rattle.distance.proofs.Outcomes.{square}
-use Rattle.ring.proofs.CandidateVerdicts.{is-network, says-1, says-4, says-5, says-faults, says-rest}
+use Rattle.distance.proofs.Outcomes.{square, is-network}
+use Rattle.ring.proofs.CandidateVerdicts.{says-1, says-4, says-5, says-faults, says-rest}
 use Rattle.ring.proofs.faults.faults_of.Statement.{statement}
 use Rattle.ring.proofs.faults.faults_of.Tie as tie
 
