@@ -1,15 +1,17 @@
--- Laws of the network file.
-pub mod Signs
+-- Laws of the network file. What is claimed stands in RoundTrips, FirstBonds and Examples; the others lead there.
 pub mod Runs
+pub mod Signs
+pub mod HeadFaults
 pub mod Partners
 pub mod BondFaults
-pub mod HeadFaults
 pub mod TableBonds
-pub mod Writings
 pub mod Valid
 pub mod Decoded
 pub mod Readings
+pub mod Writings
 pub mod Tables
 pub mod Returns
 pub mod Accepted
 pub mod RoundTrips
+pub mod FirstBonds
+pub mod Examples

@@ -1,6 +1,7 @@
 -- Reading and writing are each other's way back, and each contract admits one outcome.
 --
---   read-network      an accepted file gives a table that the validator accepts
+--   read-network      an accepted file gives the table of a network
+--   read-validates    and so one that the validator accepts
 --   read-write        an accepted file, read and written again, gives the same bytes
 --   write-read        an accepted network, written and read again, gives the same table, atoms and bonds
 --   accepted-exactly  a file is accepted exactly when it is what writing makes of a network for which there is room
@@ -25,7 +26,7 @@ use Rattle.bnw.specs.declared.Reading.{Reading}
 use Rattle.bnw.specs.declared.Written.{Written}
 use Rattle.bnw.specs.File.{Bond, fileOf, tableOf, bondsOf}
 use Rattle.bnw.specs.Reading.{field, bondIn, bondsBelow, readVerdict, readValue, ReadsAs, Reads}
-use Rattle.bnw.specs.Writing.{Writes}
+use Rattle.bnw.specs.Writing.{Writes, FileOfNetwork}
 use Rattle.bnw.proofs.Partners.{table-length}
 use Rattle.bnw.proofs.Writings.{network-judged, writes-network}
 use Rattle.bnw.proofs.Decoded.{atoms-field, bonds-field, bonds-read}
@@ -95,14 +96,6 @@ module _ (n : ℕ) (t lent written : List ℕ) (w : Written) (W : Writes n t len
         a .number ∙ ap length bonds,
         ap (λ (k : ℕ). take (places * k) after) (sym same) ∙ table-is (take (w .bytes) written) before after r R ok ∙ ap₂ tableOf same bonds ∙ table-back n t network,
       )
-
--- a file of a network
-pub record FileOfNetwork (file : List ℕ) (room : ℕ) : Type 0 where
-  pub atoms : ℕ
-  pub table : List ℕ
-  pub network : IsNetwork atoms table
-  pub fits : places * atoms ≤ room
-  pub file-of : file ≡ fileOf atoms (bondsOf table)
 
 pub accepted-exactly : (file before after : List ℕ) (r : Reading) → Reads file before after r → (r .answer .code ≡ 0) ↔ FileOfNetwork file (length before)
 accepted-exactly file before after r R = (

@@ -49,6 +49,14 @@ unfolding earlier
 earlier-is a b (inl l) = rw (lt-ltb (a .first) (b .first) l)
 earlier-is a b (inr h) = rw (le-ltb (a .first) (b .first) (omega (arith, h .0)), eq-eqb (a .first) (b .first) (h .0), lt-ltb (a .second) (b .second) (h .1))
 
+pub follows-earlier : (bond : ℕ → Bond) (k : ℕ) → follows bond (suc k) ≡ true → Earlier (bond k) (bond (suc k))
+unfolding follows
+follows-earlier bond k f = let e : suc k - 1 ≡ k = omega arith in earlier-of (bond k) (bond (suc k)) (rw (ne-eqb (suc k) 0 (omega arith), e) at f)
+
+pub earlier-follows : (bond : ℕ → Bond) (k : ℕ) → Earlier (bond k) (bond (suc k)) → follows bond (suc k) ≡ true
+unfolding follows
+earlier-follows bond k h = let e : suc k - 1 ≡ k = omega arith in rw (ne-eqb (suc k) 0 (omega arith), e) (earlier-is (bond k) (bond (suc k)) h)
+
 -- what no fault at bond k says, and what says so
 pub record Right (n : ℕ) (bond : ℕ → Bond) (k : ℕ) : Type 0 where
   pub ordered : bond k .first < bond k .second
@@ -92,8 +100,7 @@ module _ (n : ℕ) (bond : ℕ → Bond) (k : ℕ) where
 -- bonds without a fault
 module _ (n : ℕ) (bond : ℕ → Bond) (m : ℕ) (right : (k : ℕ) → k < m → Right n bond k) where
   next : (k : ℕ) → suc k < m → Earlier (bond k) (bond (suc k))
-  unfolding follows
-  next k l = let e : suc k - 1 ≡ k = omega arith in earlier-of (bond k) (bond (suc k)) (rw (ne-eqb (suc k) 0 (omega arith), e) at (right (suc k) l .after))
+  next k l = follows-earlier bond k (right (suc k) l .after)
 
   chain : (j k : ℕ) → j < k → k < m → Earlier (bond j) (bond k)
   chain j zero h l = absurd (omega arith)

@@ -1,4 +1,5 @@
 -- The network file, and what comes of reading and writing one. Read File first.
 pub mod File
 pub mod Reading
+pub mod FirstBond
 pub mod Writing

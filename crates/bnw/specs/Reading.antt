@@ -1,22 +1,26 @@
 -- What comes of reading a file: the answer, and the lent table before and after.
 --
---   field file i               the two bytes from i on, little-endian, unsigned
+--   field file i                  the two bytes from i on, little-endian, unsigned
 --   versionIn, atomsIn, bondsIn   the fields of the head: bytes 3 and 4, 5 and 6, 7 and 8
---   Bytes file                 every element is a byte
---   signed v                   a 16-bit field in two's complement
---   outside low high k         k is not from low to high
---   marked file                the file begins with the mark
---   headFault file room        the first of 19 to 25, or 0, where the table lent has `room` words
---   bondIn file k              bond k of a file
---   earlier a b                whether bond a comes before bond b
---   bondsBelow bond k          the bonds of number below k
---   bondFault n bond k         26 or 27 at bond k, or 0
---   orAt c k later             fault c with place k; 0 is none, and what comes later decides
---   firstBond fault m k        the first fault among the m bonds from k on
---   readVerdict file room      19 to 25, then 26 and 27 bond by bond
---   readValue file code        the signed value that goes with an answer
---   ReadsAs file before after r   the file is the format's file of r's atoms with r's number of bonds, and the table is theirs
---   Reads file before after r  what comes of reading
+--   Bytes file                    every element is a byte
+--   signed v                      a 16-bit field in two's complement
+--   outside low high k            whether k is not from low to high
+--   marked file                   whether the file begins with the mark
+--   headFault file room           the first of 19 to 25, or 0, where the table lent has `room` words
+--   bondIn file k                 bond k of a file
+--   earlier a b                   whether bond a comes before bond b
+--   bondsBelow bond k             the bonds of number below k
+--   inside n b                    whether both atoms are below n, and the first is below the second
+--   follows bond k                whether bond k comes after the previous one, if there is one
+--   full bond k x                 whether x has, among the bonds of number below k, as many as a row has places
+--   bondFault n bond k            26 or 27 at bond k, or 0
+--   orAt c k later                fault c with place k; 0 is none, and what comes later decides
+--   firstBond fault m k           the first fault among the m bonds from k on
+--   readVerdict file room         19 to 25, then 26 and 27 bond by bond
+--   readValue file code           the signed value that goes with an answer: the count field at 22 and 23, otherwise 0
+--   ReadsAs file before after r   the file is that of r's atoms and some valid bonds, of r's number, and their table stands
+--                                 first in the table lent, of which the rest stays
+--   Reads file before after r     what comes of reading: refused, nothing is changed and the counts are 0
 use mathlib.Core.Path.{_≡_}
 use mathlib.Core.Bool.{Bool, true, cond, not, _&&_, _||_}
 use mathlib.Core.List.{List, _++_, map}
@@ -77,15 +81,12 @@ earlier a b = ltb (a .first) (b .first) || (eqb (a .first) (b .first) && ltb (a 
 abbrev pub bondsBelow : (ℕ → Bond) → ℕ → List Bond
 bondsBelow bond k = map bond (count k 0)
 
--- both atoms are below n, and the first is below the second
 unfoldable pub inside : ℕ → Bond → Bool
 inside n b = ltb (b .first) n && ltb (b .second) n && ltb (b .first) (b .second)
 
--- bond k comes after the previous one, if there is one
 unfoldable pub follows : (ℕ → Bond) → ℕ → Bool
 follows bond k = eqb k 0 || earlier (bond (k - 1)) (bond k)
 
--- among the bonds of number below k, x has as many as a row has places
 unfoldable pub full : (ℕ → Bond) → ℕ → ℕ → Bool
 full bond k x = leb places (length (partners (bondsBelow bond k) x))
 

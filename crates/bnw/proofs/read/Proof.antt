@@ -38,7 +38,7 @@ bond-faults-requires : tie.Need-bond-faults-requires
 bond-faults-requires c κs = bonds-inside _ (c .before .before .before .before .before .before .args .table .now) _ (c .before .before .before .head-fault .ensures) (c .before .before .if1 .left) _ _ (c .before .field .ensures .0) (c .field2 .ensures .0) _ refl (c .field2 .ensures .2)
 
 returns-2 : tie.Need-returns-2
-returns-2 c = reads-bond _ _ _ (c .before .before .before .before .before .before .head-fault .ensures) (c .before .before .before .before .before .if1 .left) _ _ (c .before .before .before .before .field .ensures .0) (c .before .before .before .field2 .ensures .0) _ (c .before .before .bond-faults .ensures) (c .if2 .taken)
+returns-2 c = reads-bond _ _ _ (c .before .before .before .before .before .before .head-fault .ensures) (c .before .before .before .before .before .if1 .left) _ _ (c .before .before .before .before .field .ensures .0) (c .before .before .before .field2 .ensures .0) _ (c .before .before .bond-faults .ensures) (omega (arith, c .if2 .taken))
 
 fill-table-requires : tie.Need-fill-table-requires
 fill-table-requires c κs =

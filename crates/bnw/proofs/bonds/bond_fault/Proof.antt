@@ -1,3 +1,6 @@
+use Prim.Native.Nat.{_≤_}
+use native.Mathlib.Omega.{arith}
+use Rattle.network.specs.Maxima.{places}
 use Rattle.bnw.proofs.BondFaults.{fault-first, fault-second, fault-order, fault-after, fault-ninth-first, fault-ninth-second, fault-none}
 use borrow.Author.Needs.{needs}
 use Rattle.bnw.proofs.bonds.bond_fault.Statement.{statement}
@@ -28,13 +31,13 @@ bonds-before-requires : tie.Need-bonds-before-requires
 bonds-before-requires c κs = search needs
 
 returns-5 : tie.Need-returns-5
-returns-5 c = search fault-ninth-first
+returns-5 c = let enough : places ≤ c .before .bonds-before .result = omega (arith, c .if5 .taken) in search fault-ninth-first
 
 bonds-before-requires-2 : tie.Need-bonds-before-requires-2
 bonds-before-requires-2 c κs = search needs
 
 returns-6 : tie.Need-returns-6
-returns-6 c = search fault-ninth-second
+returns-6 c = let enough : places ≤ c .before .bonds-before2 .result = omega (arith, c .if6 .taken) in search fault-ninth-second
 
 returns-7 : tie.Need-returns-7
 returns-7 c = search fault-none

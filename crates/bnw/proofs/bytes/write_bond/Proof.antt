@@ -22,7 +22,10 @@ returns : tie.Need-returns
 returns c = search (none-past, none-written)
 
 put-field-requires : tie.Need-put-field-requires
-put-field-requires c κs = search needs
+put-field-requires c κs =
+    let s = c .before .before .before .before .before .before in
+    let fits : s .args .at + 3 < length (s .args .file .now) = bond-fits (s .args .table .now) (s .args .file .now) (s .args .i) (s .args .at) _ (c .before .before .bonds-at .ensures .0) (c .before .if1 .left) (s .pre .1) in
+    (omega (arith, c .before .before .before .shared-slice-known2 .given (s .args .i)), omega arith)
 
 add-put-field : tie.Need-add-put-field
 add-put-field c = search needs
