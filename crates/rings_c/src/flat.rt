@@ -1,0 +1,128 @@
+// The answers of the calls as C has them.
+use crate::FlatCandidate;
+use crate::FlatCensus;
+use crate::FlatReading;
+use crate::FlatWritten;
+use bnw::Reading;
+use bnw::Written;
+use ring::Shortest;
+use ring::Tested;
+use search::Census;
+use search::Mean;
+ghost use mathlib.Core.Path.{_≡_};
+ghost use Rattle.ring.specs.CandidateOutcome.{values};
+ghost use Rattle.rings_c.specs.Flat.{hasMean, meanValue, flatCensus, flatCandidate, flatReading, flatWritten};
+
+pub fn flat_census(c: Census) -> FlatCensus
+    ensures { λ r. ⌜ r ≡ flatCensus c ⌝ }
+{
+    let answer = c.answer;
+    let counts = c.counts;
+    let averages = c.averages;
+    let mean = averages.mean;
+    let has = has_mean(mean);
+    let value = mean_value(mean);
+    FlatCensus {
+        answer,
+        limit: c.limit,
+        counts,
+        total: c.total,
+        words: c.words,
+        per_atom: averages.per_atom,
+        has_mean: has,
+        mean: value,
+    }
+}
+
+pub fn flat_candidate(c: Tested) -> FlatCandidate
+    ensures { λ r. ⌜ r ≡ flatCandidate c ⌝ }
+{
+    let answer = c.answer;
+    let shortest = c.shortest;
+    let writing = c.writing;
+    let is_yes = yes(shortest);
+    let place = first(shortest);
+    let other = second(shortest);
+    FlatCandidate {
+        answer,
+        yes: is_yes,
+        first: place,
+        second: other,
+        writing,
+    }
+}
+
+pub fn flat_reading(c: Reading) -> FlatReading
+    ensures { λ r. ⌜ r ≡ flatReading c ⌝ }
+{
+    let answer = c.answer;
+    FlatReading {
+        answer,
+        atoms: c.atoms,
+        bonds: c.bonds,
+        value: c.value,
+    }
+}
+
+pub fn flat_written(c: Written) -> FlatWritten
+    ensures { λ r. ⌜ r ≡ flatWritten c ⌝ }
+{
+    let answer = c.answer;
+    FlatWritten {
+        answer,
+        bytes: c.bytes,
+    }
+}
+
+// Whether there is a mean.
+fn has_mean(mean: Mean) -> bool
+    ensures { λ r. ⌜ r ≡ hasMean mean ⌝ }
+{
+    match mean {
+        Mean::Of(_) => true,
+        Mean::NoRings => false,
+    }
+}
+
+// The mean, or 0.
+fn mean_value(mean: Mean) -> f64
+    ensures { λ r. ⌜ r ≡ meanValue mean ⌝ }
+{
+    match mean {
+        Mean::Of(value) => value,
+        Mean::NoRings => 0.0,
+    }
+}
+
+// Whether it is a shortest-path ring.
+fn yes(shortest: Shortest) -> bool
+    ensures { λ r. ⌜ r ≡ values shortest .yes ⌝ }
+{
+    match shortest {
+        Shortest::Yes => true,
+        Shortest::No(_, _) => false,
+        Shortest::Refused => false,
+    }
+}
+
+// The first place of the pair named at no, else 0.
+fn first(shortest: Shortest) -> usize
+    ensures { λ r. ⌜ r ≡ values shortest .first ⌝ }
+{
+    match shortest {
+        Shortest::Yes => 0,
+        Shortest::No(first, _) => first,
+        Shortest::Refused => 0,
+    }
+}
+
+// The second place of the pair named at no, else 0.
+fn second(shortest: Shortest) -> usize
+    ensures { λ r. ⌜ r ≡ values shortest .second ⌝ }
+{
+    match shortest {
+        Shortest::Yes => 0,
+        Shortest::No(_, second) => second,
+        Shortest::Refused => 0,
+    }
+}

@@ -1,0 +1,158 @@
+// The library for C and for every language that calls C, as include/rings.h declares it.
+//
+// Each function passes on one call and has that call's contract; a slice crosses as pointer and length, an answer as a flat struct.
+mod flat;
+
+use network::Answer;
+use ring::Ring;
+ghost use mathlib.Core.Path.{_≡_};
+ghost use Rattle.network.specs.Verdict.{verdict};
+ghost use Rattle.ring.specs.CandidateOutcome.{CandidateOutcome};
+ghost use Rattle.search.specs.Census.{CountOutcome, ListOutcome};
+ghost use Rattle.bnw.specs.Reading.{Reads};
+ghost use Rattle.bnw.specs.Writing.{Writes};
+ghost use Rattle.distance.specs.Outcome as distance;
+ghost use Rattle.renumber.specs.Outcome as renumber;
+ghost use Rattle.rings_c.specs.Flat.{flatCensus, flatCandidate, flatReading, flatWritten, PassedOn};
+
+// What counting and listing answer.
+#[repr(C)]
+pub struct FlatCensus {
+    pub answer: Answer,
+    // The limit used.
+    pub limit: usize,
+    // The number of rings of each length.
+    pub counts: [u32; Ring::LENGTH + 1],
+    // The number of rings.
+    pub total: u32,
+    // The words that their list takes.
+    pub words: usize,
+    // Rings per atom.
+    pub per_atom: f64,
+    // Whether there are rings, and so a mean length.
+    pub has_mean: bool,
+    // The mean length of the rings, or +0.0.
+    pub mean: f64,
+}
+
+// What the test of a candidate answers.
+#[repr(C)]
+pub struct FlatCandidate {
+    pub answer: Answer,
+    // Whether it is a shortest-path ring.
+    pub yes: bool,
+    // Where it is not, the first pair of its places whose network distance is shorter.
+    pub first: usize,
+    pub second: usize,
+    // Where it is, its one writing; the other words are 0.
+    pub writing: [u16; Ring::LENGTH],
+}
+
+// What reading answers.
+#[repr(C)]
+pub struct FlatReading {
+    pub answer: Answer,
+    pub atoms: usize,
+    pub bonds: usize,
+    // The count field that refusals 22 and 23 name.
+    pub value: i32,
+}
+
+// What writing answers.
+#[repr(C)]
+pub struct FlatWritten {
+    pub answer: Answer,
+    pub bytes: usize,
+}
+
+// The first fault of a bond table.
+#[no_mangle]
+pub extern "C" fn rings_validate(n: usize, table: &[u16]) -> Answer
+    ensures { λ r. ⌜ r ≡ verdict n (now (table .entry)) ⌝ }
+{
+    network::validate(n, table)
+}
+
+// The distances between all atoms.
+#[no_mangle]
+pub extern "C" fn rings_distances(n: usize, table: &[u16], dist: &mut [u8]) -> Answer
+    ensures { λ r. ⌜ distance.Outcome n (now (table .entry)) (now (dist .entry)) (now (dist .exit)) r ⌝ }
+{
+    distance::distances(n, table, dist)
+}
+
+// The test of one candidate ring.
+#[no_mangle]
+pub extern "C" fn rings_test(
+    n: usize,
+    table: &[u16],
+    ring: &[u16],
+    dist: &mut [u8],
+) -> FlatCandidate
+    ensures { λ r. ⌜ PassedOn flatCandidate (CandidateOutcome n (now (table .entry)) (now (ring .entry)) (now (dist .entry)) (now (dist .exit))) r ⌝ }
+{
+    let tested = ring::candidate(n, table, ring, dist);
+    flat::flat_candidate(tested)
+}
+
+// The number of shortest-path rings of each length.
+#[no_mangle]
+pub extern "C" fn rings_count(
+    n: usize,
+    table: &[u16],
+    limit: usize,
+    allowance: usize,
+    dist: &mut [u8],
+) -> FlatCensus
+    ensures { λ r. ⌜ PassedOn flatCensus (CountOutcome n (now (table .entry)) limit allowance (now (dist .entry)) (now (dist .exit))) r ⌝ }
+{
+    let census = search::count(n, table, limit, allowance, dist);
+    flat::flat_census(census)
+}
+
+// The same, and the rings themselves.
+#[no_mangle]
+pub extern "C" fn rings_list(
+    n: usize,
+    table: &[u16],
+    limit: usize,
+    allowance: usize,
+    dist: &mut [u8],
+    list: &mut [u16],
+) -> FlatCensus
+    ensures { λ r. ⌜ PassedOn flatCensus (ListOutcome n (now (table .entry)) limit allowance (now (dist .entry)) (now (dist .exit)) (now (list .entry)) (now (list .exit))) r ⌝ }
+{
+    let census = search::list(n, table, limit, allowance, dist, list);
+    flat::flat_census(census)
+}
+
+// The table under new numbers of the atoms.
+#[no_mangle]
+pub extern "C" fn rings_renumber(
+    n: usize,
+    table: &[u16],
+    names: &[u16],
+    renamed: &mut [u16],
+) -> Answer
+    ensures { λ r. ⌜ renumber.Outcome n (now (table .entry)) (now (names .entry)) (now (renamed .entry)) (now (renamed .exit)) r ⌝ }
+{
+    renumber::renumber(n, table, names, renamed)
+}
+
+// The network of a file.
+#[no_mangle]
+pub extern "C" fn rings_read(file: &[u8], table: &mut [u16]) -> FlatReading
+    ensures { λ r. ⌜ PassedOn flatReading (Reads (now (file .entry)) (now (table .entry)) (now (table .exit))) r ⌝ }
+{
+    let reading = bnw::read(file, table);
+    flat::flat_reading(reading)
+}
+
+// The file of a network.
+#[no_mangle]
+pub extern "C" fn rings_write(n: usize, table: &[u16], file: &mut [u8]) -> FlatWritten
+    ensures { λ r. ⌜ PassedOn flatWritten (Writes n (now (table .entry)) (now (file .entry)) (now (file .exit))) r ⌝ }
+{
+    let written = bnw::write(n, table, file);
+    flat::flat_written(written)
+}
