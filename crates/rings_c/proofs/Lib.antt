@@ -1,2 +1,3 @@
 -- Laws of the answers as C has them.
 pub mod OneOutcome
+pub mod Told

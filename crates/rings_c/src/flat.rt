@@ -13,6 +13,7 @@ ghost use mathlib.Core.Path.{_≡_};
 ghost use Rattle.ring.specs.CandidateOutcome.{values};
 ghost use Rattle.rings_c.specs.Flat.{hasMean, meanValue, flatCensus, flatCandidate, flatReading, flatWritten};
 
+// What counting and listing answer: the mean with a flag.
 pub fn flat_census(c: Census) -> FlatCensus
     ensures { λ r. ⌜ r ≡ flatCensus c ⌝ }
 {
@@ -20,8 +21,6 @@ pub fn flat_census(c: Census) -> FlatCensus
     let counts = c.counts;
     let averages = c.averages;
     let mean = averages.mean;
-    let has = has_mean(mean);
-    let value = mean_value(mean);
     FlatCensus {
         answer,
         limit: c.limit,
@@ -29,29 +28,28 @@ pub fn flat_census(c: Census) -> FlatCensus
         total: c.total,
         words: c.words,
         per_atom: averages.per_atom,
-        has_mean: has,
-        mean: value,
+        has_mean: has_mean(mean),
+        mean: mean_value(mean),
     }
 }
 
+// What the test of a candidate answers: yes or no with the pair of places.
 pub fn flat_candidate(c: Tested) -> FlatCandidate
     ensures { λ r. ⌜ r ≡ flatCandidate c ⌝ }
 {
     let answer = c.answer;
     let shortest = c.shortest;
     let writing = c.writing;
-    let is_yes = yes(shortest);
-    let place = first(shortest);
-    let other = second(shortest);
     FlatCandidate {
         answer,
-        yes: is_yes,
-        first: place,
-        second: other,
+        yes: yes(shortest),
+        first: first(shortest),
+        second: second(shortest),
         writing,
     }
 }
 
+// What reading answers, field by field.
 pub fn flat_reading(c: Reading) -> FlatReading
     ensures { λ r. ⌜ r ≡ flatReading c ⌝ }
 {
@@ -64,6 +62,7 @@ pub fn flat_reading(c: Reading) -> FlatReading
     }
 }
 
+// What writing answers, field by field.
 pub fn flat_written(c: Written) -> FlatWritten
     ensures { λ r. ⌜ r ≡ flatWritten c ⌝ }
 {
