@@ -1,0 +1,2 @@
+-- Laws that the program rests on.
+pub mod Fits

@@ -1,0 +1,56 @@
+use Rattle.listing.proofs.Fits.{part-length}
+use native.Mathlib.Omega.{arith}
+use borrow.Author.Needs.{needs}
+use Rattle.listing.proofs.respond.Statement.{statement}
+use Rattle.listing.proofs.respond.Tie as tie
+
+slice-aggregate-read : tie.Need-slice-aggregate-read
+slice-aggregate-read c = search needs
+
+read-requires : tie.Need-read-requires
+read-requires c κs = search needs
+
+refuse-requires : tie.Need-refuse-requires
+refuse-requires c κs = search needs
+
+same-length : tie.Need-same-length
+same-length c = search needs
+
+returns : tie.Need-returns
+returns c = search needs
+
+mul-words : tie.Need-mul-words
+mul-words c = omega (arith, c .before .before .before .before .read .ensures .accepts (c .if1 .left) .counted .most)
+
+array-share-prefix-table : tie.Need-array-share-prefix-table
+array-share-prefix-table c = omega (arith, c .before .before .before .before .read .ensures .accepts (c .if1 .left) .counted .most)
+
+slice-aggregate-list : tie.Need-slice-aggregate-list
+slice-aggregate-list c =
+    let few = c .before .before .before .before .before .read .ensures .accepts (c .before .if1 .left) .counted .most in
+    part-length _ _ (omega (arith, few, c .before .before .before .before .before .read .kept .1 .0))
+
+list-requires : tie.Need-list-requires
+list-requires c κs = c .before .before .before .before .before .before .read .ensures .accepts (c .before .before .if1 .left) .counted
+
+same-length-2 : tie.Need-same-length-2
+same-length-2 c = search needs
+
+returns-2 : tie.Need-returns-2
+returns-2 c = search needs
+
+pub respond-spec : {M : Type 1} → statement M
+respond-spec =
+    tie.close
+    (tie.spec
+    slice-aggregate-read
+    read-requires
+    refuse-requires
+    same-length
+    returns
+    mul-words
+    array-share-prefix-table
+    slice-aggregate-list
+    list-requires
+    same-length-2
+    returns-2)
