@@ -143,26 +143,28 @@ static found each_length(given g, size_t limit)
     return f;
 }
 
-/* Fills the distance buffer, breadth first from each atom. */
+/* One level of a row: the atoms at d give d + 1 to their neighbours that have no entry. How many were filled. */
+static size_t level(size_t n, const uint16_t *table, uint8_t *row, uint8_t d)
+{
+    size_t filled = 0;
+    for (size_t v = 0; v < n; v++)
+        if (row[v] == d)
+            for (size_t p = 0; p < ROW && table[v * ROW + p] != RINGS_FREE; p++)
+                if (row[table[v * ROW + p]] == RINGS_NO_PATH) {
+                    row[table[v * ROW + p]] = (uint8_t)(d + 1);
+                    filled++;
+                }
+    return filled;
+}
+
+/* Fills the distance buffer level by level from each atom, with no queue and no scratch memory, as the library does. */
 static void distances(size_t n, const uint16_t *table, uint8_t *dist)
 {
-    uint16_t queue[RINGS_ATOMS];
     memset(dist, RINGS_NO_PATH, n * n);
     for (size_t from = 0; from < n; from++) {
-        uint8_t *row = dist + from * n;
-        size_t head = 0, tail = 0;
-        row[from] = 0;
-        queue[tail++] = (uint16_t)from;
-        while (head < tail) {
-            size_t x = queue[head++];
-            for (size_t i = 0; i < ROW && table[x * ROW + i] < n; i++) {
-                size_t y = table[x * ROW + i];
-                if (row[y] == RINGS_NO_PATH) {
-                    row[y] = (uint8_t)(row[x] + 1);
-                    queue[tail++] = (uint16_t)y;
-                }
-            }
-        }
+        dist[from * n + from] = 0;
+        for (uint8_t d = 0; level(n, table, dist + from * n, d) > 0; d++)
+            ;
     }
 }
 
