@@ -1,0 +1,3 @@
+-- That the demands hold.
+pub mod Searches
+pub mod Renumbering

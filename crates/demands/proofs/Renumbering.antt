@@ -1,0 +1,85 @@
+-- Demand 3 holds.
+use mathlib.Core.Path.{_≡_, refl, sym, _∙_, ap, ap₂}
+use mathlib.Core.Bool.{cond}
+use mathlib.Core.List.{List, [], _∷_, map}
+use Prim.Native.Nat.{ℕ, _+_, _*_}
+use native.Mathlib.Decide.{ℕ-discrete}
+use lib.Dec.{eqb, ltb}
+use lib.ListN.{length}
+use Rattle.graph.specs.Lists.{count}
+use Rattle.graph.specs.Counts.{ofLength}
+use Rattle.graph.specs.Listing.{RingListing}
+use Rattle.network.specs.declared.Answer.{Answer}
+use Rattle.network.specs.Network.{Bonded, IsNetwork}
+use Rattle.network.specs.Verdict.{check, accepted}
+use Rattle.renumber.specs.Outcome as renumber
+use Rattle.renumber.specs.Carried.{CarriedTo}
+use Rattle.renumber.proofs.Outcomes.{accepts}
+use Rattle.renumber.proofs.Carried.{call-carries}
+use Rattle.ring.specs.Maxima.{ringMost}
+use Rattle.search.specs.declared.Census.{Census}
+use Rattle.search.specs.Census.{limitOf, beforeSearch, encode, countsOf, censusWith, censusOf, noCensus, settled, afterCount, afterList, Searched, Outcome, ListOutcome}
+use Rattle.demands.specs.Renumbering.{SameRings, RenumberThenList, RenumberThenCount}
+use Rattle.demands.proofs.Searches.{code, encode-words, of-length, before-network, lists-rings}
+
+map-alike : (f g : ℕ → ℕ) (ks : List ℕ) → ((k : ℕ) → f k ≡ g k) → map f ks ≡ map g ks
+map-alike f g [] h = refl
+map-alike f g (k ∷ ks) h = ap₂ (λ (x : ℕ) (xs : List ℕ). x ∷ xs) (h k) (map-alike f g ks h)
+
+-- lists with as many rings of each length have one census
+module _ (xs ys : List (List ℕ)) (each : (k : ℕ) → ofLength k xs ≡ ofLength k ys) (all : length xs ≡ length ys) (words : length (encode xs) ≡ length (encode ys)) where
+  same-counts : countsOf xs ≡ countsOf ys
+  unfolding countsOf
+  same-counts = map-alike _ _ (count (ringMost + 1) 0) (λ k. of-length k xs ∙ each k ∙ sym (of-length k ys))
+
+  same-settled : (n limit : ℕ) (a b : Answer) → a ≡ b → settled n limit a xs ≡ settled n limit b ys
+  same-settled n limit a b e = rw (e, same-counts, all, words)
+
+module _ (n : ℕ) (t names before after : List ℕ) (a : Answer) (R : renumber.Outcome n t names before after a) (z : a .code ≡ 0) where
+  given : IsNetwork n t
+  given = accepts n t names before .0 (ap (λ (x : Answer). x .code) (sym (R .answer)) ∙ z) .0
+
+  carried : (limit : ℕ) (xs ys : List (List ℕ)) → RingListing (Bonded t) limit xs → RingListing (Bonded after) limit ys → CarriedTo names xs ys
+  carried = call-carries n t names before after a R z
+
+  module _ (limit allowance : ℕ) (d d′ e e′ : List ℕ) (c c′ : Census) (same : length d ≡ length e) (f g : List (List ℕ) → Answer)
+      (alike : (xs ys : List (List ℕ)) → length xs ≡ length ys → length (encode xs) ≡ length (encode ys) → f xs ≡ g ys) where
+    checks : beforeSearch n t limit allowance d ≡ beforeSearch n after limit allowance e
+    checks = before-network n t limit allowance d given ∙ rw same refl ∙ sym (before-network n after limit allowance e (R .renumbered z .network))
+
+    searched : Searched n t limit f d′ c → Searched n after limit g e′ c′ → c ≡ c′
+    searched S Q =
+        let C = carried (limitOf limit) (S .rings) (Q .rings) (S .listing) (Q .listing) in
+        let words : length (encode (S .rings)) ≡ length (encode (Q .rings)) = encode-words (S .rings) ∙ C .words ∙ sym (encode-words (Q .rings)) in
+        S .says ∙ same-settled (S .rings) (Q .rings) (C .counts) (C .total) words n limit (f (S .rings)) (g (Q .rings)) (alike (S .rings) (Q .rings) (C .total) words) ∙ sym (Q .says)
+
+    same-census : Outcome n t limit allowance f d d′ c → Outcome n after limit allowance g e e′ c′ → c ≡ c′
+    same-census O P =
+        elim (ℕ-discrete (beforeSearch n t limit allowance d .code) 0) [
+          | yes y ↦ searched (O .searched y) (P .searched (ap (λ (x : Answer). x .code) (sym checks) ∙ y))
+          | no y ↦ O .refused y .0 ∙ ap noCensus checks ∙ sym (P .refused (λ w. y (ap (λ (x : Answer). x .code) checks ∙ w)) .0)
+        ]
+
+pub renumber-then-count : RenumberThenCount
+renumber-then-count n t names before after a R z limit allowance d d′ e e′ c c′ O P same =
+    same-census n t names before after a R z limit allowance d d′ e e′ c c′ same (afterCount allowance) (afterCount allowance) (λ xs ys all words. rw all refl) O P
+
+pub renumber-then-list : RenumberThenList
+renumber-then-list n t names before after a R z limit allowance d d′ e e′ l l′ m m′ c c′ O P same room = (one, rings)
+  where
+    one : c ≡ c′
+    one = same-census n t names before after a R z limit allowance d d′ e e′ c c′ same (afterList allowance (length l)) (afterList allowance (length m)) (λ xs ys all words. rw (all, words, room) refl) (O .census) (P .census)
+
+    rings : code c ≡ 0 → SameRings names limit t after l l′ m m′
+    rings y =
+        let X = lists-rings n t limit allowance d d′ l l′ c O y in
+        let Y = lists-rings n after limit allowance e e′ m m′ c′ P (ap code (sym one) ∙ y) in
+        record {
+          xs = X .rings;
+          ys = Y .rings;
+          here = X .listing;
+          there = Y .listing;
+          list-here = X .words;
+          list-there = Y .words;
+          carried = carried n t names before after a R z (limitOf limit) (X .rings) (Y .rings) (X .listing) (Y .listing);
+        }

@@ -1,0 +1,2 @@
+-- What is demanded of the library.
+pub mod Renumbering
