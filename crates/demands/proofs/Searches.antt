@@ -20,6 +20,7 @@ use Rattle.network.proofs.Networks.{faultless-of}
 use Rattle.search.specs.declared.Census.{Census}
 use Rattle.search.specs.Census.{limitOf, notLimit, notAllowance, beforeSearch, encode, countsOf, censusOf, afterCount, afterList, settled, Searched, Outcome, ListOutcome}
 use Rattle.search.specs.Census as census
+use Rattle.search.proofs.Passed.{reached-exactly}
 use Rattle.bnw.proofs.Runs.{sets-front}
 
 abbrev pub code : Census → ℕ
@@ -44,6 +45,13 @@ pub reached : (n : ℕ) (t : List ℕ) (limit allowance : ℕ) (before : List �
 reached n t limit allowance before f after c O z =
     elim (ℕ-discrete (beforeSearch n t limit allowance before .code) 0) [
       | yes y ↦ O .searched y
+      | no y ↦ absurd (y (ap code (sym (O .refused y .0)) ∙ z))
+    ]
+
+pub reached-network : (n : ℕ) (t : List ℕ) (limit allowance : ℕ) (before : List ℕ) (f : List (List ℕ) → Answer) (after : List ℕ) (c : Census) → Outcome n t limit allowance f before after c → code c ≡ 0 → IsNetwork n t
+reached-network n t limit allowance before f after c O z =
+    elim (ℕ-discrete (beforeSearch n t limit allowance before .code) 0) [
+      | yes y ↦ reached-exactly n t limit allowance before .0 y .network
       | no y ↦ absurd (y (ap code (sym (O .refused y .0)) ∙ z))
     ]
 

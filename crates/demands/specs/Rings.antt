@@ -1,0 +1,67 @@
+-- Demand 2. In an accepted listing a cycle of 3 to the limit's number of bonds stands, once, exactly when between any two of its atoms
+-- the distance round the ring is the distance in the whole network. One way to write a ring, one place in the list; counts and averages follow.
+--
+--   RoundIsDistance t r         between any two atoms of r the distance round the ring is the distance in the network t
+--   StandsOnce rings r          one of the readings of r stands at one place of the list, and no other reading at any place
+--   StandExactly t limit rings  the demand, of a list of rings: what stands in it, each in its one writing, in list order
+--   Numbers n rings c           the numbers of a census c that follow from the list: counts, total, words, averages
+--   AcceptedListing             the demand, of a listing: these rings stand at the front of the list buffer, whose rest stays
+--   AcceptedCount               the demand, of counting: the numbers are those of the same list
+use mathlib.Core.Path.{_≡_}
+use mathlib.Core.Logic.{_↔_}
+use mathlib.Core.List.{List, [], _++_}
+use Prim.Native.Nat.{ℕ, _-_, _≤_, _<_}
+use lib.ListN.{length, getD, drop}
+use Rattle.graph.specs.Lists.{_∈_, Ascending}
+use Rattle.graph.specs.Graph.{Distance, around, Ring}
+use Rattle.graph.specs.Writing.{Reading, OneWriting}
+use Rattle.graph.specs.Listing.{Before}
+use Rattle.graph.specs.Counts.{ofLength, sumOf, wordsOf}
+use Rattle.network.specs.Network.{Bonded}
+use Rattle.ring.specs.Maxima.{ringMost}
+use Rattle.search.specs.declared.Census.{Census}
+use Rattle.search.specs.Averages.{quotient, meanOf}
+use Rattle.search.specs.Census.{limitOf, encode, CountOutcome, ListOutcome}
+
+abbrev pub RoundIsDistance : List ℕ → List ℕ → Type 0
+RoundIsDistance t r = (i j : ℕ) → i < j → j < length r → Distance (Bonded t) (getD r i 0) (getD r j 0) (around (length r) (j - i))
+
+pub record StandsOnce (rings : List (List ℕ)) (r : List ℕ) : Type 0 where
+  pub writing : List ℕ
+  pub reading : Reading 0 r writing
+  pub place : ℕ
+  pub in-list : place < length rings
+  pub stands : getD rings place [] ≡ writing
+  pub only : (s : List ℕ) (i : ℕ) → Reading 0 r s → i < length rings → getD rings i [] ≡ s → (s ≡ writing) × (i ≡ place)
+
+pub record StandExactly (t : List ℕ) (limit : ℕ) (rings : List (List ℕ)) : Type 0 where
+  pub exactly : (r : List ℕ) → Ring (Bonded t) 0 r → length r ≤ limit → RoundIsDistance t r ↔ StandsOnce rings r
+  -- nothing else stands there
+  pub cycles : (r : List ℕ) → r ∈ rings → Ring (Bonded t) 0 r × (length r ≤ limit)
+  -- one way to write a ring, one place in the list
+  pub written : (r : List ℕ) → r ∈ rings → OneWriting r
+  pub order : Ascending (Before _<_) rings
+
+pub record Numbers (n : ℕ) (rings : List (List ℕ)) (c : Census) : Type 0 where
+  pub counts : (k : ℕ) → k ≤ ringMost → getD (c .counts) k 0 ≡ ofLength k rings
+  pub total : c .total ≡ length rings
+  pub words : c .words ≡ wordsOf rings
+  -- rings per atom, and their mean length: the sum of the lengths over the number of rings
+  pub per-atom : c .averages .«per_atom» ≡ quotient (length rings) n
+  pub mean : c .averages .mean ≡ meanOf (length rings) (sumOf (λ k. k) rings)
+
+pub record Tells (n : ℕ) (t : List ℕ) (limit : ℕ) (c : Census) : Type 0 where
+  pub used : c .limit ≡ limitOf limit
+  pub rings : List (List ℕ)
+  pub stand : StandExactly t (c .limit) rings
+  pub numbers : Numbers n rings c
+
+abbrev pub AcceptedListing : Type 0
+AcceptedListing =
+    (n : ℕ) (t : List ℕ) (limit allowance : ℕ) (d d′ l l′ : List ℕ) (c : Census) → ListOutcome n t limit allowance d d′ l l′ c → c .answer .code ≡ 0
+    → (told : Tells n t limit c) × (l′ ≡ encode (told .rings) ++ drop (c .words) l)
+
+abbrev pub AcceptedCount : Type 0
+AcceptedCount =
+    (n : ℕ) (t : List ℕ) (limit allowance : ℕ) (d d′ : List ℕ) (c : Census) → CountOutcome n t limit allowance d d′ c → c .answer .code ≡ 0
+    → Tells n t limit c
