@@ -2,6 +2,7 @@
 use mathlib.Core.Path.{_≡_, refl, sym, _∙_, ap, ap₂, subst}
 use mathlib.Core.List.{List}
 use Prim.Native.Nat.{ℕ}
+use native.Mathlib.Omega.{arith}
 use lib.ListN.{length}
 use Rattle.network.specs.declared.Answer.{Answer}
 use Rattle.network.specs.Verdict.{verdict}
@@ -14,12 +15,16 @@ use Rattle.search.specs.Census.{afterCount, afterList}
 use Rattle.search.proofs.OneOutcome.{count-once, list-once}
 use Rattle.renumber.proofs.OneOutcome as renumber
 use Rattle.bnw.specs.declared.Written.{Written}
-use Rattle.bnw.proofs.RoundTrips.{writes-one}
+use Rattle.bnw.specs.Reading.{atomsIn, bondsIn}
+use Rattle.bnw.proofs.HeadFaults.{value-22, value-23, value-else}
+use Rattle.bnw.proofs.RoundTrips.{reads-one, writes-one}
 use Rattle.demands.specs.Refusals.{ValidateSays, DistancesSays, CandidateSays, RenumberSays, WriteSays}
-use Rattle.demands.specs.Calls.{Fixed, Validate, Distances, Candidate, Count, Lists, Renumber, Write}
+use Rattle.demands.specs.FileRefusals.{ReadSays}
+use Rattle.demands.specs.Calls.{Fixed, Validate, Distances, Candidate, Count, Lists, Renumber, Write, Read}
 use Rattle.demands.proofs.Refusals.{validate-says, distances-says, candidate-says, renumber-says, write-says}
 use Rattle.demands.proofs.Searches.{reached}
 use Rattle.demands.proofs.SearchRefusals.{count-says, list-says, count-leaves, list-leaves}
+use Rattle.demands.proofs.FileRefusals.{read-says}
 use Rattle.demands.proofs.Rings.{accepted-count, accepted-listing}
 
 both : {A B : Type 0} (o p : A × B) → (o .0 ≡ p .0) × (o .1 ≡ p .1) → o ≡ p
@@ -88,4 +93,19 @@ list-fixed n t limit allowance dist list = record {
   refused = λ o h z. (list-leaves n t limit allowance dist (o .1) list (o .2) (o .0) h z, h .kept z);
   done = λ o h z. (reached n t limit allowance dist (afterList allowance (length list)) (o .1) (o .0) (h .census) z .filled, accepted-listing n t limit allowance dist (o .1) list (o .2) (o .0) h z);
   one = λ o p h k. three o p (list-once n t limit allowance dist list (o .1) (p .1) (o .2) (p .2) (o .0) (p .0) h k);
+}
+
+pub read-fixed : Read
+read-fixed file table = record {
+  gives = λ o h. subst (ReadSays file table) (sym (h .verdict)) (read-says file table);
+  refused = λ o h z. record {
+    atoms = h .refused z .0;
+    bonds = h .refused z .1;
+    stays = h .refused z .2;
+    value-22 = λ e. h .signs ∙ sym (value-22 file (o .0 .answer .code) e (atomsIn file) refl);
+    value-23 = λ e. h .signs ∙ sym (value-23 file (o .0 .answer .code) (λ g. omega (arith, e, g)) e (bondsIn file) refl);
+    value-else = λ e f. h .signs ∙ sym (value-else file (o .0 .answer .code) e f);
+  };
+  done = λ o h z. (h .accepts z, h .signs ∙ sym (value-else file (o .0 .answer .code) (λ e. omega (arith, z, e)) (λ e. omega (arith, z, e))));
+  one = λ o p h k. both o p (reads-one file table (o .1) (p .1) (o .0) (p .0) h k);
 }

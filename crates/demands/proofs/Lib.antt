@@ -5,6 +5,7 @@ pub mod Searches
 pub mod Rings
 pub mod Files
 pub mod SearchRefusals
+pub mod FileRefusals
 pub mod Calls
 pub mod Renumbering
 pub mod Examples

@@ -4,11 +4,12 @@
 --   Fixed Out Contract answer Gives Left Done   of a call whose contract admits the outcomes o, each a result with the lent buffers afterwards:
 --                                               the answer is said by the chain of checks `Gives`; `Left` holds after a refusal,
 --                                               `Done` after an accepted call; and any two outcomes are the same
---   Validate, Distances, Candidate, Count, Lists, Renumber, Write   this, of each call
+--   Validate, Distances, Candidate, Count, Lists, Renumber, Write, Read   this, of each call
 use mathlib.Core.Path.{_≡_}
 use mathlib.Core.Logic.{_⊎_}
 use mathlib.Core.List.{List, _++_}
 use Prim.Native.Nat.{ℕ}
+use lib.IntN.{pos}
 use lib.ListN.{length, drop, replicate}
 use Rattle.network.specs.declared.Answer.{Answer}
 use Rattle.network.specs.Network.{IsNetwork}
@@ -24,10 +25,13 @@ use Rattle.search.specs.declared.Census.{Census}
 use Rattle.search.specs.Census.{encode, noCensus, CountOutcome, ListOutcome}
 use Rattle.renumber.specs.Outcome.{Renumbered}
 use Rattle.renumber.specs.Outcome as renumber
+use Rattle.bnw.specs.declared.Reading.{Reading}
 use Rattle.bnw.specs.declared.Written.{Written}
 use Rattle.bnw.specs.File.{fileOf, bondsOf}
+use Rattle.bnw.specs.Reading.{atomsIn, bondsIn, signed, ReadsAs, Reads}
 use Rattle.bnw.specs.Writing.{Writes}
 use Rattle.demands.specs.Refusals.{Says, ValidateSays, DistancesSays, CandidateSays, CountSays, ListSays, RenumberSays, WriteSays}
+use Rattle.demands.specs.FileRefusals.{ReadSays}
 use Rattle.demands.specs.Rings.{Tells}
 
 pub record Fixed (Out : Type 0) (Contract : Out → Type 0) (answer : Out → Answer) (Gives : Says) (Left Done : Out → Type 0) : Type 0 where
@@ -90,3 +94,19 @@ Write =
     (λ o. Writes n t file (o .1) (o .0)) (λ o. o .0 .answer) (WriteSays n t file)
     (λ o. (o .0 .bytes ≡ 0) × (o .1 ≡ file))
     (λ o. (o .0 .bytes ≡ length (fileOf n (bondsOf t))) × (o .1 ≡ fileOf n (bondsOf t) ++ drop (o .0 .bytes) file))
+
+-- nothing is read: but the count field goes with 22 and 23
+pub record NothingRead (file table table′ : List ℕ) (r : Reading) : Type 0 where
+  pub atoms : r .atoms ≡ 0
+  pub bonds : r .bonds ≡ 0
+  pub stays : table′ ≡ table
+  pub value-22 : r .answer .code ≡ 22 → r .value ≡ signed (atomsIn file)
+  pub value-23 : r .answer .code ≡ 23 → r .value ≡ signed (bondsIn file)
+  pub value-else : (r .answer .code ≡ 22 → ⊥) → (r .answer .code ≡ 23 → ⊥) → r .value ≡ pos 0
+
+abbrev pub Read : Type 0
+Read =
+    (file table : List ℕ) → Fixed (Reading × List ℕ)
+    (λ o. Reads file table (o .1) (o .0)) (λ o. o .0 .answer) (ReadSays file table)
+    (λ o. NothingRead file table (o .1) (o .0))
+    (λ o. ReadsAs file table (o .1) (o .0) × (o .0 .value ≡ pos 0))
