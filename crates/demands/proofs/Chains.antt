@@ -1,22 +1,22 @@
 -- A chain of checks, as it computes, gives what it says.
 use mathlib.Core.Path.{_≡_, refl, sym, _∙_, ap, subst}
-use mathlib.Core.Logic.{_⊎_, inl, inr}
+use mathlib.Core.Logic.{inl, inr}
 use mathlib.Core.Bool.{Bool, true, false, _&&_, not}
 use mathlib.Core.List.{List}
-use Prim.Native.Nat.{ℕ, _+_, _*_, _≤_, _<_}
+use Prim.Native.Nat.{ℕ, _*_, _≤_, _<_}
 use native.Mathlib.Omega.{arith}
 use native.Mathlib.Decide.{ℕ-discrete, decLe, decLt}
-use lib.Dec.{leb, ltb, eqb}
-use lib.ListN.{length, getD}
-use borrow.Author.Tests.{le-leb, lt-leb, lt-ltb, le-ltb, eq-eqb, ne-eqb}
+use lib.Dec.{leb, ltb}
+use lib.ListN.{length}
+use borrow.Author.Tests.{le-leb, lt-leb, lt-ltb, le-ltb}
 use Rattle.network.specs.declared.Answer.{Answer}
 use Rattle.network.specs.Maxima.{atomsMost, places}
 use Rattle.network.specs.Network.{Counted, IsNetwork}
-use Rattle.network.specs.Verdict.{answer, accepted, refusal, check, notAtoms, notLong, faults, verdict}
+use Rattle.network.specs.Verdict.{accepted, check, notAtoms, notLong, faults, verdict}
 use Rattle.network.specs.FirstFault.{NamesFirst}
 use Rattle.network.specs.FirstFault as faulty
-use Rattle.network.proofs.Verdicts.{atoms, not-atoms-low, not-atoms-high, long, not-long, verdict-faults, faults-kept}
-use Rattle.network.proofs.Networks.{network-of, faultless-of}
+use Rattle.network.proofs.Verdicts.{atoms, long, not-long, verdict-faults, faults-kept}
+use Rattle.network.proofs.Networks.{faultless-of}
 use Rattle.network.proofs.FirstFaults.{verdict-judges}
 use Rattle.ring.specs.Firsts.{firstOf}
 use Rattle.ring.specs.CandidateVerdict.{firstPlace}

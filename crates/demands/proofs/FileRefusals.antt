@@ -6,20 +6,19 @@ use mathlib.Core.List.{List}
 use Prim.Native.Nat.{ℕ, zero, suc, _+_, _-_, _*_, _≤_, _<_}
 use native.Mathlib.Nat.{zero-add}
 use native.Mathlib.Omega.{arith}
-use native.Mathlib.Decide.{ℕ-discrete, decLe, decLt}
-use lib.Dec.{eqb, leb, ltb}
+use native.Mathlib.Decide.{ℕ-discrete, decLe}
+use lib.Dec.{eqb, ltb}
 use lib.IntN.{ℤ, pos, negsuc}
 use lib.ListN.{length, getD}
-use borrow.Author.Tests.{lt-ltb, le-ltb, le-leb, lt-leb, eq-eqb, ne-eqb, ltb-true, ltb-false, leb-true, leb-false, eqb-true}
+use borrow.Author.Tests.{lt-ltb, le-ltb, lt-leb, eq-eqb, ne-eqb, ltb-true, leb-false, eqb-true}
 use Rattle.network.specs.declared.Answer.{Answer}
 use Rattle.network.specs.Maxima.{atomsMost, places}
-use Rattle.network.specs.Verdict.{answer, accepted, refusal}
-use Rattle.bnw.specs.File.{Bond, mark, version, bondsMost, headLength, bondLength, Earlier, partners}
-use Rattle.bnw.specs.Reading.{versionIn, atomsIn, bondsIn, signed, outside, marked, headFault, bondIn, earlier, bondsBelow, inside, follows, full, bondFault, orAt, firstBond, readVerdict}
+use Rattle.bnw.specs.File.{Bond, mark, version, bondsMost, headLength, bondLength, Earlier}
+use Rattle.bnw.specs.Reading.{versionIn, atomsIn, bondsIn, signed, outside, marked, headFault, bondIn, earlier, inside, follows, full, bondFault, orAt, firstBond, readVerdict}
 use Rattle.bnw.proofs.Valid.{earlier-of, earlier-is}
 use Rattle.bnw.proofs.BondFaults.{given}
 use Rattle.demands.specs.Refusals.{Says, Check, Accepted}
-use Rattle.demands.specs.FileRefusals.{Marked, Within, InOrder, Room, FirstBond, Bonds, ReadSays}
+use Rattle.demands.specs.FileRefusals.{Marked, Within, InOrder, Room, Bonds, ReadSays}
 use Rattle.demands.proofs.Chains.{in-range, range-true, range-false}
 
 -- one check of the head

@@ -1,6 +1,5 @@
 -- Demand 2 holds of files.
-use mathlib.Core.Path.{sym, _∙_, ap}
-use mathlib.Core.List.{List}
+use mathlib.Core.Path.{_∙_, ap}
 use Prim.Native.Nat.{ℕ, _*_}
 use lib.ListN.{take}
 use Rattle.network.specs.Maxima.{places}

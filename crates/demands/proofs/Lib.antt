@@ -1,5 +1,6 @@
--- That the demands hold.
+-- That the demands are met. Read Demands; the rest serves it.
 pub mod Chains
+pub mod OneAnswer
 pub mod Refusals
 pub mod Searches
 pub mod Rings
@@ -9,3 +10,4 @@ pub mod FileRefusals
 pub mod Calls
 pub mod Renumbering
 pub mod Examples
+pub mod Demands

@@ -1,21 +1,21 @@
 -- What each call's verdict says.
-use mathlib.Core.Path.{_≡_, refl, sym, _∙_, ap, ap₂, subst}
-use mathlib.Core.Logic.{_⊎_, inl, inr}
-use mathlib.Core.Bool.{Bool, true, false, true≢false, not}
+use mathlib.Core.Path.{_≡_, refl, ap, ap₂}
+use mathlib.Core.Logic.{inl, inr}
+use mathlib.Core.Bool.{true, false, not}
 use mathlib.Core.List.{List}
 use Prim.Native.Nat.{ℕ, _+_, _*_, _%_, _≤_, _<_}
 use native.Mathlib.Nat.{mod-lt}
 use native.Mathlib.Omega.{arith}
-use native.Mathlib.Decide.{ℕ-discrete, decLe, decLt}
-use lib.Dec.{eqb, ltb}
+use native.Mathlib.Decide.{decLt}
+use lib.Dec.{eqb}
 use lib.ListN.{length, getD}
-use borrow.Author.Tests.{leb-true, leb-false, ltb-true, ltb-false, eqb-true, eqb-false, le-leb, lt-leb, eq-eqb, ne-eqb}
+use borrow.Author.Tests.{leb-true, leb-false, ltb-true, ltb-false, eqb-true, eqb-false}
 use Rattle.network.specs.declared.Answer.{Answer}
 use Rattle.network.specs.Maxima.{places}
-use Rattle.network.specs.Network.{word, Bonded, Counted, IsNetwork}
-use Rattle.network.specs.Verdict.{answer, accepted, refusal, check, verdict}
+use Rattle.network.specs.Network.{word, Bonded, IsNetwork}
+use Rattle.network.specs.Verdict.{answer, accepted, verdict}
 use Rattle.distance.specs.Outcome.{distanceVerdict}
-use Rattle.ring.specs.Maxima.{ringLeast, ringMost, allowanceMost}
+use Rattle.ring.specs.Maxima.{ringLeast, ringMost}
 use Rattle.ring.specs.Writes.{notRing}
 use Rattle.ring.specs.CandidateVerdict.{outside, firstWith, seen, placeOf, apart, ringVerdict, candidateVerdict}
 use Rattle.ring.proofs.Firsts.{first-of}

@@ -1,24 +1,21 @@
 -- Demand 3 holds.
 use mathlib.Core.Path.{_≡_, refl, sym, _∙_, ap, ap₂}
-use mathlib.Core.Bool.{cond}
 use mathlib.Core.List.{List, [], _∷_, map}
-use Prim.Native.Nat.{ℕ, _+_, _*_}
+use Prim.Native.Nat.{ℕ, _+_}
 use native.Mathlib.Decide.{ℕ-discrete}
-use lib.Dec.{eqb, ltb}
 use lib.ListN.{length}
 use Rattle.graph.specs.Lists.{count}
 use Rattle.graph.specs.Counts.{ofLength}
 use Rattle.graph.specs.Listing.{RingListing}
 use Rattle.network.specs.declared.Answer.{Answer}
 use Rattle.network.specs.Network.{Bonded, IsNetwork}
-use Rattle.network.specs.Verdict.{check, accepted}
 use Rattle.renumber.specs.Outcome as renumber
 use Rattle.renumber.specs.Carried.{CarriedTo}
 use Rattle.renumber.proofs.Outcomes.{accepts}
 use Rattle.renumber.proofs.Carried.{call-carries}
 use Rattle.ring.specs.Maxima.{ringMost}
 use Rattle.search.specs.declared.Census.{Census}
-use Rattle.search.specs.Census.{limitOf, beforeSearch, encode, countsOf, censusWith, censusOf, noCensus, settled, afterCount, afterList, Searched, Outcome, ListOutcome}
+use Rattle.search.specs.Census.{limitOf, beforeSearch, encode, countsOf, noCensus, settled, afterCount, afterList, Searched, Outcome}
 use Rattle.demands.specs.Renumbering.{SameRings, RenumberThenList, RenumberThenCount}
 use Rattle.demands.proofs.Searches.{code, encode-words, of-length, before-network, lists-rings}
 

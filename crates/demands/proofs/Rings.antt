@@ -1,14 +1,12 @@
 -- Demand 2 holds.
 use mathlib.Core.Path.{_≡_, refl, sym, _∙_, ap, subst}
-use mathlib.Core.Logic.{⊎-elim}
 use mathlib.Core.List.{List, [], _++_}
-use Prim.Native.Nat.{ℕ, _+_, _-_, _≤_, _<_}
+use Prim.Native.Nat.{ℕ, _-_, _≤_, _<_}
 use native.Mathlib.Omega.{arith}
-use native.Mathlib.Decide.{ℕ-discrete, decLt}
+use native.Mathlib.Decide.{decLt}
 use lib.ListN.{length, getD, drop}
 use Rattle.graph.specs.Lists.{_∈_}
 use Rattle.graph.specs.Graph.{Ring}
-use Rattle.graph.specs.Writing.{Reading}
 use Rattle.graph.specs.Listing.{Before, RingListing}
 use Rattle.graph.specs.Counts.{sumOf}
 use Rattle.graph.proofs.Lists.{place-of, at-place, apart-places}

@@ -1,24 +1,22 @@
 -- What counting and listing answer.
 use mathlib.Core.Path.{_≡_, refl, sym, _∙_, ap, subst}
 use mathlib.Core.Logic.{_⊎_, inl, inr}
-use mathlib.Core.Bool.{Bool, true, false, not, _&&_, _||_}
+use mathlib.Core.Bool.{Bool, true, false, not}
 use mathlib.Core.List.{List}
 use Prim.Native.Nat.{ℕ, _*_, _≤_, _<_}
 use native.Mathlib.Omega.{arith}
 use native.Mathlib.Decide.{ℕ-discrete}
-use lib.Dec.{eqb, ltb}
+use lib.Dec.{ltb}
 use lib.ListN.{length}
 use borrow.Author.Tests.{eq-eqb, ne-eqb}
-use Rattle.graph.specs.Listing.{RingListing}
 use Rattle.graph.specs.Counts.{wordsOf}
 use Rattle.network.specs.declared.Answer.{Answer}
 use Rattle.network.specs.Maxima.{places}
-use Rattle.network.specs.Network.{Bonded}
 use Rattle.network.specs.Verdict.{accepted, refusal, check}
 use Rattle.network.specs.FirstFault.{NamesFirst, AtPlace}
 use Rattle.ring.specs.Maxima.{ringLeast, ringMost, allowanceMost}
 use Rattle.search.specs.declared.Census.{Census}
-use Rattle.search.specs.Census.{limitOf, notLimit, notAllowance, beforeSearch, encode, noCensus, afterCount, afterList, settled, Searched, Outcome, CountOutcome, ListOutcome}
+use Rattle.search.specs.Census.{notLimit, notAllowance, beforeSearch, encode, noCensus, afterCount, afterList, settled, Outcome, CountOutcome, ListOutcome}
 use Rattle.search.proofs.Passed.{limit-given, Passed, reached-exactly}
 use Rattle.demands.specs.Refusals.{Says, Check, Table, OfRings, Accepted, RightLimit, RightAllowance, SearchSays, CountSays, ListSays}
 use Rattle.demands.specs.Calls.{AfterSearch}

@@ -1,24 +1,23 @@
 -- What is common to counting and listing: when the search is reached, and the words of a list.
 use mathlib.Core.Path.{_≡_, refl, sym, _∙_, ap}
 use mathlib.Core.Bool.{Bool, true, false}
-use mathlib.Core.List.{List, [], _∷_, _++_, map}
+use mathlib.Core.List.{List, [], _∷_, _++_}
 use Prim.Native.Nat.{ℕ, _+_, _*_, _≤_}
 use native.Mathlib.Omega.{arith}
 use native.Mathlib.Decide.{ℕ-discrete}
-use lib.Dec.{eqb, ltb}
+use lib.Dec.{ltb}
 use lib.ListN.{length, drop, length-append}
-use lib.Seq.{sets}
 use borrow.Author.Tests.{ltb-false}
 use Rattle.graph.specs.Counts.{ofLength, sumOf, wordsOf}
 use Rattle.graph.specs.Listing.{RingListing}
 use Rattle.network.specs.declared.Answer.{Answer}
 use Rattle.network.specs.Maxima.{places}
 use Rattle.network.specs.Network.{Bonded, IsNetwork}
-use Rattle.network.specs.Verdict.{check, notLong, faults, accepted}
+use Rattle.network.specs.Verdict.{check, notLong, accepted}
 use Rattle.network.proofs.Verdicts.{atoms, long}
 use Rattle.network.proofs.Networks.{faultless-of}
 use Rattle.search.specs.declared.Census.{Census}
-use Rattle.search.specs.Census.{limitOf, notLimit, notAllowance, beforeSearch, encode, countsOf, censusOf, afterCount, afterList, settled, Searched, Outcome, ListOutcome}
+use Rattle.search.specs.Census.{limitOf, notLimit, notAllowance, beforeSearch, encode, censusOf, afterCount, afterList, settled, Searched, Outcome, ListOutcome}
 use Rattle.search.specs.Census as census
 use Rattle.search.proofs.Passed.{reached-exactly}
 use Rattle.bnw.proofs.Runs.{sets-front}

@@ -2,8 +2,10 @@
 -- what is left in every lent buffer is fixed too.
 --
 --   Fixed Out Contract answer Gives Left Done   of a call whose contract admits the outcomes o, each a result with the lent buffers afterwards:
---                                               the answer is said by the chain of checks `Gives`; `Left` holds after a refusal,
+--                                               the chain of checks `Gives` gives the answer and no other; `Left` holds after a refusal,
 --                                               `Done` after an accepted call; and any two outcomes are the same
+--   AfterSearch n t dist dist′ c                counting or listing is refused: every number is 0, and what is left in the distance buffer
+--   NothingRead file table table′ r             reading is refused: every number is 0 but the value at 22 and 23, and the table stays
 --   Validate, Distances, Candidate, Count, Lists, Renumber, Write, Read   this, of each call
 use mathlib.Core.Path.{_≡_}
 use mathlib.Core.Logic.{_⊎_}
@@ -30,12 +32,13 @@ use Rattle.bnw.specs.declared.Written.{Written}
 use Rattle.bnw.specs.File.{fileOf, bondsOf}
 use Rattle.bnw.specs.Reading.{atomsIn, bondsIn, signed, ReadsAs, Reads}
 use Rattle.bnw.specs.Writing.{Writes}
-use Rattle.demands.specs.Refusals.{Says, ValidateSays, DistancesSays, CandidateSays, CountSays, ListSays, RenumberSays, WriteSays}
+use Rattle.demands.specs.Refusals.{Says, OneAnswer, ValidateSays, DistancesSays, CandidateSays, CountSays, ListSays, RenumberSays, WriteSays}
 use Rattle.demands.specs.FileRefusals.{ReadSays}
 use Rattle.demands.specs.Rings.{Tells}
 
 pub record Fixed (Out : Type 0) (Contract : Out → Type 0) (answer : Out → Answer) (Gives : Says) (Left Done : Out → Type 0) : Type 0 where
   pub gives : (o : Out) → Contract o → Gives (answer o)
+  pub only : OneAnswer Gives
   pub refused : (o : Out) → Contract o → (answer o .code ≡ 0 → ⊥) → Left o
   pub done : (o : Out) → Contract o → answer o .code ≡ 0 → Done o
   pub one : (o p : Out) → Contract o → Contract p → o ≡ p

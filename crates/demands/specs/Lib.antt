@@ -1,4 +1,4 @@
--- What is demanded of the library.
+-- What is demanded of the library. Read Demands first: each of its fields is stated in one of the others.
 pub mod Refusals
 pub mod FileRefusals
 pub mod Rings
@@ -6,3 +6,4 @@ pub mod Files
 pub mod Calls
 pub mod Renumbering
 pub mod Examples
+pub mod Demands

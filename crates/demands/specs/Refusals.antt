@@ -1,6 +1,7 @@
 -- Demand 1, the answers. Bad input gets a numbered refusal, exactly when the outline says, naming the first fault.
 -- The answers that a call may give are a chain of its checks, in the order in which they are made.
 --
+--   OneAnswer Gives             the chain gives no two answers
 --   Check c Right Later a       c where the input is not right; else it is right, and what comes later says
 --   Table n t Later a           the first of 7 to 11 in the table; else it is the table of a network, and what comes later says
 --   Places c Bad k Later a      c at row 0 and the first bad of k places; else none is bad, and what comes later says
@@ -27,6 +28,9 @@ use Rattle.bnw.specs.File.{fileOf, bondsOf}
 
 abbrev pub Says : Type 1
 Says = Answer → Type 0
+
+abbrev pub OneAnswer : Says → Type 0
+OneAnswer Gives = (a b : Answer) → Gives a → Gives b → a ≡ b
 
 unfoldable pub Check : ℕ → Type 0 → Says → Says
 Check c Right Later a = ((Right → ⊥) × (a ≡ refusal c)) ⊎ (Right × Later a)

@@ -1,10 +1,11 @@
 -- Demand 3. Renumber the atoms, then list; or list, then renumber the rings: the same set of rings.
 -- Limit, allowance and buffer lengths equal, both succeed with equal counts or both are refused with the same number.
 --
---   SameRings names xs ys l l′ m m′    the one buffer lists xs, the other ys, and the rings of ys are those of xs under their new names
---   RenumberThenList                   an accepted renumbering, the listing of the network and that of the renumbered network:
---                                      one census (answer, limit, counts, total, words, averages); accepted, the same rings
---   RenumberThenCount                  the same census of counting
+--   SameRings names limit t after l l′ m m′    the buffer l becomes the list of the network's rings, m that of the renumbered network's,
+--                                              and these are those under their new names
+--   RenumberThenList                           after an accepted renumbering, listing the network and listing the renumbered network:
+--                                              one census (answer, limit, counts, total, words, averages); accepted, the same rings
+--   RenumberThenCount                          one census of counting, too
 use mathlib.Core.Path.{_≡_}
 use mathlib.Core.List.{List, _++_}
 use Prim.Native.Nat.{ℕ}

@@ -5,6 +5,7 @@
 --   StandsOnce rings r          one of the readings of r stands at one place of the list, and no other reading at any place
 --   StandExactly t limit rings  the demand, of a list of rings: what stands in it, each in its one writing, in list order
 --   Numbers n rings c           the numbers of a census c that follow from the list: counts, total, words, averages
+--   Tells n t limit c           the limit used, a list of rings of which both hold
 --   AcceptedListing             the demand, of a listing: these rings stand at the front of the list buffer, whose rest stays
 --   AcceptedCount               the demand, of counting: the numbers are those of the same list
 use mathlib.Core.Path.{_≡_}
