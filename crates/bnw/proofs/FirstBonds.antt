@@ -34,7 +34,7 @@ module _ (n : ℕ) (bond : ℕ → Bond) (k : ℕ) where
   placed o s f (inr (inr (inr h))) =
       h .2 (subst (λ (i : ℕ). Earlier (bond (h .0)) (bond i)) (h .1) (follows-earlier bond (h .0) (subst (λ (i : ℕ). follows bond i ≡ true) (sym (h .1)) f)))
 
-  fault-clean : bondFault n bond k ≡ 0 → (Misplaced n bond k → ⊥) × (Ninth bond k → ⊥)
+  pub fault-clean : bondFault n bond k ≡ 0 → (Misplaced n bond k → ⊥) × (Ninth bond k → ⊥)
   fault-clean z = let r = right-of n bond k z in (placed (r .ordered) (r .below) (r .after), room)
     where
       room : Ninth bond k → ⊥
@@ -96,7 +96,7 @@ scan-first fault (suc m) k z = go (fault k) refl (scan-first fault m (k + 1)) z
       none = λ j l h. absurd (omega arith);
     }
 
-names-first : (n : ℕ) (bond : ℕ → Bond) (m : ℕ) → (firstBond (bondFault n bond) m 0 .code ≡ 0 → ⊥) → NamesBond n bond m (firstBond (bondFault n bond) m 0)
+pub names-first : (n : ℕ) (bond : ℕ → Bond) (m : ℕ) → (firstBond (bondFault n bond) m 0 .code ≡ 0 → ⊥) → NamesBond n bond m (firstBond (bondFault n bond) m 0)
 names-first n bond m z =
     let f = scan-first (bondFault n bond) m 0 z in
     subst (NamesBond n bond m) (sym (f .is)) (record {

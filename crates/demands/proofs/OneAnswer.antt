@@ -1,6 +1,6 @@
 -- A chain of checks says one answer.
 use mathlib.Core.Path.{_≡_, sym, _∙_, ap, ap₂, subst, subst₂}
-use mathlib.Core.Logic.{inl, inr}
+use mathlib.Core.Logic.{_⊎_, inl, inr}
 use mathlib.Core.List.{List}
 use Prim.Native.Nat.{ℕ, _+_, _*_, _≤_, _<_}
 use native.Mathlib.Omega.{arith}
@@ -10,11 +10,13 @@ use Rattle.network.specs.declared.Answer.{Answer}
 use Rattle.network.specs.Maxima.{places}
 use Rattle.network.specs.Network.{Bonded, IsNetwork}
 use Rattle.network.specs.Verdict.{answer}
-use Rattle.network.specs.FirstFault.{AtPlace, Earlier, NamesPlace, NamesBond, NamesFirst}
+use Rattle.network.specs.FirstFault.{AtPlace, Earlier, NamesPlace, NamesFirst}
+use Rattle.network.specs.FirstFault as table
 use Rattle.search.specs.Census.{limitOf}
 use Rattle.bnw.specs.File.{Bond}
+use Rattle.bnw.specs.FirstBond.{Misplaced, Ninth, NamesBond}
 use Rattle.demands.specs.Refusals.{Says, OneAnswer, Check, Table, Places, OfRings, Accepted}
-use Rattle.demands.specs.FileRefusals.{InOrder, Room, FirstBond, Bonds}
+use Rattle.demands.specs.FileRefusals.{Bonds}
 
 same-answer : (a b : Answer) → a .code ≡ b .code → a .row ≡ b .row → a .place ≡ b .place → a ≡ b
 same-answer a b e f g = ap₂ (λ (c x : ℕ). answer c x (a .place)) e f ∙ ap (λ (p : ℕ). answer (b .code) (b .row) p) g
@@ -52,7 +54,7 @@ module _ (n : ℕ) (t : List ℕ) where
       let down : b .code ≤ a .code = k .smallest (a .code) (subst₂ (λ x p. AtPlace n t x p (a .code)) (at .0) (at .1) (h .there)) in
       same-answer a b (omega (arith, up, down)) (at .0) (at .1)
 
-  one-bond : (a b : Answer) → NamesBond n t a → NamesBond n t b → a ≡ b
+  one-bond : (a b : Answer) → table.NamesBond n t a → table.NamesBond n t b → a ≡ b
   one-bond a b h k =
       let at = same-row (a .row) (a .place) (b .row) (b .place) (h .place) (k .place) (λ l. k .first (a .row) (a .place) (h .place) l (h .there)) (λ l. h .first (b .row) (b .place) (k .place) l (k .there)) in
       same-answer a b (h .eleven ∙ sym (k .eleven)) (at .0) (at .1)
@@ -86,23 +88,26 @@ one-of-rings t limit Later one a b h k =
     one (k .0) a b (subst (λ (rings : List (List ℕ)). Later rings a) (ring-listing-unique (Bonded t) (limitOf limit) (h .0) (k .0) (h .1) (k .1)) (h .2)) (k .2)
 
 -- the first fault of a file's bonds
-module _ (n : ℕ) (bond : ℕ → Bond) where
-  not-right : (k : ℕ) (a : Answer) → FirstBond n bond k a → InOrder n bond k × Room bond k → ⊥
-  not-right k a (inl h) r = h .0 (r .0)
-  not-right k a (inr h) r = h .1 (r .1)
+module _ (n : ℕ) (bond : ℕ → Bond) (m : ℕ) where
+  at-fault : (a : Answer) → NamesBond n bond m a → (Misplaced n bond (a .place) → ⊥) × (Ninth bond (a .place) → ⊥) → ⊥
+  at-fault a h none = elim (h .there) [ inl f ↦ none .0 (f .1) | inr f ↦ none .1 (f .2) ]
 
-  one-fault : (j k : ℕ) (a b : Answer) → j ≡ k → FirstBond n bond j a → FirstBond n bond k b → a ≡ b
-  one-fault j k a b e f g = go (subst (λ i. FirstBond n bond i a) e f) g
+  one-fault : OneAnswer (NamesBond n bond m)
+  one-fault a b h k = same-answer a b (number (h .there) (k .there)) (h .row ∙ sym (k .row)) at
     where
-      go : FirstBond n bond k a → FirstBond n bond k b → a ≡ b
-      go (inl h) (inl u) = h .1 ∙ sym (u .1)
-      go (inl h) (inr u) = absurd (h .0 (u .0))
-      go (inr h) (inl u) = absurd (u .0 (h .0))
-      go (inr h) (inr u) = h .2 ∙ sym (u .2)
+      at : a .place ≡ b .place
+      at = same-place (a .place) (b .place) (λ l. at-fault a h (k .first (a .place) l)) (λ l. at-fault b k (h .first (b .place) l))
 
-  pub one-bonds : (m : ℕ) (Later : Says) → OneAnswer Later → OneAnswer (Bonds n bond m Later)
+      number : ((a .code ≡ 26) × Misplaced n bond (a .place)) ⊎ ((a .code ≡ 27) × (Misplaced n bond (a .place) → ⊥) × Ninth bond (a .place))
+          → ((b .code ≡ 26) × Misplaced n bond (b .place)) ⊎ ((b .code ≡ 27) × (Misplaced n bond (b .place) → ⊥) × Ninth bond (b .place)) → a .code ≡ b .code
+      number (inl f) (inl g) = f .0 ∙ sym (g .0)
+      number (inl f) (inr g) = absurd (g .1 (subst (Misplaced n bond) at (f .1)))
+      number (inr f) (inl g) = absurd (f .1 (subst (Misplaced n bond) (sym at) (g .1)))
+      number (inr f) (inr g) = f .0 ∙ sym (g .0)
+
+  pub one-bonds : (Later : Says) → OneAnswer Later → OneAnswer (Bonds n bond m Later)
   unfolding Bonds
-  one-bonds m Later one a b (inl h) (inl k) = one-fault (h .0) (k .0) a b (same-place (h .0) (k .0) (λ l. not-right (h .0) a (h .2) (k .3 (h .0) l)) (λ l. not-right (k .0) b (k .2) (h .3 (k .0) l))) (h .2) (k .2)
-  one-bonds m Later one a b (inl h) (inr k) = absurd (not-right (h .0) a (h .2) (k .0 (h .0) (h .1)))
-  one-bonds m Later one a b (inr h) (inl k) = absurd (not-right (k .0) b (k .2) (h .0 (k .0) (k .1)))
-  one-bonds m Later one a b (inr h) (inr k) = one a b (h .1) (k .1)
+  one-bonds Later one a b (inl h) (inl k) = one-fault a b h k
+  one-bonds Later one a b (inl h) (inr k) = absurd (at-fault a h (k .0 (a .place) (h .place)))
+  one-bonds Later one a b (inr h) (inl k) = absurd (at-fault b k (h .0 (b .place) (k .place)))
+  one-bonds Later one a b (inr h) (inr k) = one a b (h .1) (k .1)

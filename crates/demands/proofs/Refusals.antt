@@ -1,31 +1,33 @@
 -- What each call's verdict says.
 use mathlib.Core.Path.{_≡_, refl, ap, ap₂}
 use mathlib.Core.Logic.{inl, inr}
-use mathlib.Core.Bool.{true, false, not}
+use mathlib.Core.Bool.{true, not}
 use mathlib.Core.List.{List}
-use Prim.Native.Nat.{ℕ, _+_, _*_, _%_, _≤_, _<_}
+use Prim.Native.Nat.{ℕ, _+_, _*_, _%_, _<_}
 use native.Mathlib.Nat.{mod-lt}
 use native.Mathlib.Omega.{arith}
 use native.Mathlib.Decide.{decLt}
 use lib.Dec.{eqb}
 use lib.ListN.{length, getD}
-use borrow.Author.Tests.{leb-true, leb-false, ltb-true, ltb-false, eqb-true, eqb-false}
+use borrow.Author.Tests.{leb-true, leb-false, ltb-true, eqb-true}
 use Rattle.network.specs.declared.Answer.{Answer}
 use Rattle.network.specs.Maxima.{places}
-use Rattle.network.specs.Network.{word, Bonded, IsNetwork}
+use Rattle.network.specs.Network.{IsNetwork}
 use Rattle.network.specs.Verdict.{answer, accepted, verdict}
 use Rattle.distance.specs.Outcome.{distanceVerdict}
 use Rattle.ring.specs.Maxima.{ringLeast, ringMost}
 use Rattle.ring.specs.Writes.{notRing}
+use Rattle.ring.specs.FirstPlaces.{Sized, NotAtom, Repeated, Unbonded}
 use Rattle.ring.specs.CandidateVerdict.{outside, firstWith, seen, placeOf, apart, ringVerdict, candidateVerdict}
 use Rattle.ring.proofs.Firsts.{first-of}
+use Rattle.ring.proofs.CandidateVerdicts.{bonded-of, of-bonded, different-of}
 use Rattle.renumber.specs.Names.{BadName, NamesBad, OneToOne}
 use Rattle.renumber.specs.Outcome.{renumberVerdict}
 use Rattle.renumber.specs.Outcome as renumber
 use Rattle.renumber.proofs.Judges.{renumber-judges}
 use Rattle.bnw.specs.File.{fileOf, bondsOf}
 use Rattle.bnw.specs.Writing.{writeVerdict}
-use Rattle.demands.specs.Refusals.{Says, Check, Table, Places, Accepted, RightLength, NotBelow, SeenEarlier, NotBonded, ValidateSays, DistancesSays, CandidateSays, RenumberSays, WriteSays}
+use Rattle.demands.specs.Refusals.{Says, Check, Table, Places, Accepted, ValidateSays, DistancesSays, CandidateSays, RenumberSays, WriteSays}
 use Rattle.demands.proofs.Chains.{check-says, in-range, range-true, range-false, check-atoms, check-long, check-most, table-says, places-says}
 
 pub validate-says : (n : ℕ) (t : List ℕ) → ValidateSays n t (verdict n t)
@@ -64,48 +66,25 @@ renumber-says n t names before = go (renumber-judges n t names before)
     go (inr (inr (inr (inr (inr h))))) = inr (h .0 .counted, inr (h .0 .whole, inr ((h .1 .long, h .2), inr (h .0, inr (names-right n names (h .1), h .3)))))
 
 -- the candidate's places
-seen-says : (r : List ℕ) (j : ℕ) → seen r j ≡ true → SeenEarlier r j
+seen-says : (r : List ℕ) (j : ℕ) → seen r j ≡ true → Repeated r j
 seen-says r j h =
     let F = first-of (λ i. eqb (getD r i 0) (getD r j 0)) j 0 in
     let l : firstWith r j < j = ltb-true (firstWith r j) j h in
     (firstWith r j, l, eqb-true (getD r (firstWith r j) 0) (getD r j 0) (F .here (omega arith)))
 
-not-seen : (r : List ℕ) (j : ℕ) → seen r j ≡ false → SeenEarlier r j → ⊥
-not-seen r j h s =
-    let F = first-of (λ i. eqb (getD r i 0) (getD r j 0)) j 0 in
-    let l : j ≤ firstWith r j = ltb-false (firstWith r j) j h in
-    eqb-false (getD r (s .0) 0) (getD r j 0) (F .none (s .0) (omega arith) (omega (arith, s .1))) (s .2)
-
-module _ (n : ℕ) (t : List ℕ) (N : IsNetwork n t) (x y : ℕ) where
-  joined : x < n → y < n → placeOf t x y < places → Bonded t x y
-  joined lx ly l =
-      let F = first-of (λ p. eqb (word t x p) y) places 0 in
-      record {
-        place = placeOf t x y;
-        in-row = l;
-        in-table = omega (arith, N .whole);
-        stands = eqb-true (word t x (placeOf t x y)) y (F .here l);
-        atom = λ e. omega (arith, N .counted .most);
-      }
-
-  not-joined : places ≤ placeOf t x y → Bonded t x y → ⊥
-  not-joined l b =
-      let F = first-of (λ p. eqb (word t x p) y) places 0 in
-      eqb-false (word t x (b .place)) y (F .none (b .place) (omega arith) (omega (arith, b .in-row))) (b .stands)
-
 ring-says : (n : ℕ) (t r : List ℕ) (N : IsNetwork n t)
-    → Check 14 (RightLength (length r)) (Places 15 (NotBelow n r) (length r) (Places 16 (SeenEarlier r) (length r) (Places 17 (NotBonded t r) (length r) Accepted))) (ringVerdict n t r)
+    → Check 14 (Sized (length r)) (Places 15 (NotAtom n r) (length r) (Places 16 (Repeated r) (length r) (Places 17 (Unbonded t r) (length r) Accepted))) (ringVerdict n t r)
 unfolding ringVerdict
 ring-says n t r N =
-    check-says 14 (notRing (length r)) _ (RightLength (length r)) _ (in-range ringLeast ringMost (length r)) (λ h. ap not (range-true ringLeast ringMost (length r) h)) (λ h. ap not (range-false ringLeast ringMost (length r) h)) λ _.
-    places-says 15 (outside n r) (length r) _ (NotBelow n r) _ (λ i l e. leb-true n (getD r i 0) e) (λ i l e h. omega (arith, leb-false n (getD r i 0) e, h)) λ below.
-    places-says 16 (seen r) (length r) _ (SeenEarlier r) _ (λ i l e. seen-says r i e) (λ i l e. not-seen r i e) λ _.
-    places-says 17 (apart t r) (length r) accepted (NotBonded t r) Accepted
-    (λ i l e. not-joined n t N (getD r i 0) (getD r ((i + 1) % length r) 0) (leb-true places _ e))
-    (λ i l e h. h (joined n t N (getD r i 0) (getD r ((i + 1) % length r) 0) (inside below i l) (inside below ((i + 1) % length r) (mod-lt (i + 1) (omega arith))) (leb-false places _ e)))
+    check-says 14 (notRing (length r)) _ (Sized (length r)) _ (in-range ringLeast ringMost (length r)) (λ h. ap not (range-true ringLeast ringMost (length r) h)) (λ h. ap not (range-false ringLeast ringMost (length r) h)) λ _.
+    places-says 15 (outside n r) (length r) _ (NotAtom n r) _ (λ i l e. leb-true n (getD r i 0) e) (λ i l e h. omega (arith, leb-false n (getD r i 0) e, h)) λ below.
+    places-says 16 (seen r) (length r) _ (Repeated r) _ (λ i l e. seen-says r i e) (λ j l e s. different-of r j e (s .0) (s .1) (s .2)) λ _.
+    places-says 17 (apart t r) (length r) accepted (Unbonded t r) Accepted
+    (λ i l e b. omega (arith, of-bonded n t N (getD r i 0) (getD r ((i + 1) % length r) 0) b, leb-true places (placeOf t (getD r i 0) (getD r ((i + 1) % length r) 0)) e))
+    (λ i l e h. h (bonded-of n t N (getD r i 0) (getD r ((i + 1) % length r) 0) (inside below i l) (inside below ((i + 1) % length r) (mod-lt (i + 1) (omega arith))) (leb-false places _ e)))
     (λ _. refl)
   where
-    inside : ((i : ℕ) → i < length r → NotBelow n r i → ⊥) → (i : ℕ) → i < length r → getD r i 0 < n
+    inside : ((i : ℕ) → i < length r → NotAtom n r i → ⊥) → (i : ℕ) → i < length r → getD r i 0 < n
     inside below i l = elim (decLt (getD r i 0) n) [ yes h ↦ h | no h ↦ absurd (below i l (omega arith)) ]
 
 pub candidate-says : (n : ℕ) (t r d : List ℕ) → CandidateSays n t r d (candidateVerdict n t r d)

@@ -12,8 +12,8 @@
 use mathlib.Core.Path.{_≡_}
 use mathlib.Core.Logic.{_⊎_}
 use mathlib.Core.List.{List}
-use Prim.Native.Nat.{ℕ, _+_, _*_, _%_, _≤_, _<_}
-use lib.ListN.{length, getD}
+use Prim.Native.Nat.{ℕ, _*_, _≤_, _<_}
+use lib.ListN.{length}
 use Rattle.graph.specs.Listing.{RingListing}
 use Rattle.graph.specs.Counts.{wordsOf}
 use Rattle.network.specs.declared.Answer.{Answer}
@@ -22,6 +22,7 @@ use Rattle.network.specs.Network.{Bonded, Counted, IsNetwork}
 use Rattle.network.specs.Verdict.{answer, accepted, refusal}
 use Rattle.network.specs.FirstFault.{NamesFirst}
 use Rattle.ring.specs.Maxima.{ringLeast, ringMost, allowanceMost}
+use Rattle.ring.specs.FirstPlaces.{Sized, NotAtom, Repeated, Unbonded}
 use Rattle.search.specs.Census.{limitOf}
 use Rattle.renumber.specs.Names.{BadName}
 use Rattle.bnw.specs.File.{fileOf, bondsOf}
@@ -56,19 +57,6 @@ RightLimit limit = (limit ≡ 0) ⊎ ((ringLeast ≤ limit) × (limit ≤ ringMo
 abbrev pub RightAllowance : ℕ → Type 0
 RightAllowance allowance = (1 ≤ allowance) × (allowance ≤ allowanceMost)
 
-abbrev pub RightLength : ℕ → Type 0
-RightLength k = (ringLeast ≤ k) × (k ≤ ringMost)
-
--- the faults of a candidate's places
-abbrev pub NotBelow : ℕ → List ℕ → ℕ → Type 0
-NotBelow n r i = n ≤ getD r i 0
-
-abbrev pub SeenEarlier : List ℕ → ℕ → Type 0
-SeenEarlier r j = (i : ℕ) × (i < j) × (getD r i 0 ≡ getD r j 0)
-
-abbrev pub NotBonded : List ℕ → List ℕ → ℕ → Type 0
-NotBonded t r i = Bonded t (getD r i 0) (getD r ((i + 1) % length r) 0) → ⊥
-
 -- the calls
 abbrev pub ValidateSays : ℕ → List ℕ → Says
 ValidateSays n t =
@@ -91,10 +79,10 @@ CandidateSays n t r dist =
     (Check 4 (length t ≡ places * n)
     (Check 5 (length dist ≡ n * n)
     (Table n t
-    (Check 14 (RightLength (length r))
-    (Places 15 (NotBelow n r) (length r)
-    (Places 16 (SeenEarlier r) (length r)
-    (Places 17 (NotBonded t r) (length r)
+    (Check 14 (Sized (length r))
+    (Places 15 (NotAtom n r) (length r)
+    (Places 16 (Repeated r) (length r)
+    (Places 17 (Unbonded t r) (length r)
     Accepted)))))))
 
 -- the checks before a search

@@ -27,8 +27,8 @@ fn heads() {
 // 22 and 23: the counts, with their signs.
 fn counts() {
     read(b"0 atoms", b"BNW\x01\x00\x00\x00\x00\x00", 2000);
-    read(b"250 atoms", b"BNW\x01\x00\xfa\x00\x00\x00", 2000);
-    read(b"251 atoms", b"BNW\x01\x00\xfb\x00\x00\x00", 2000);
+    read(b"the most atoms", b"BNW\x01\x00\xfa\x00\x00\x00", 2000);
+    read(b"one atom more", b"BNW\x01\x00\xfb\x00\x00\x00", 2000);
     read(b"atoms FF FF", b"BNW\x01\x00\xff\xff\x00\x00", 2000);
     read(b"atoms 00 80", b"BNW\x01\x00\x00\x80\x00\x00", 2000);
     read(b"bonds FF FF", b"BNW\x01\x00\x02\x00\xff\xff", 2000);
@@ -137,8 +137,8 @@ fn greatest() {
     let mut table = [Network::FREE; 2000];
     models::belt(&mut table);
     let mut file = [0u8; 4010];
-    let written = bnw::write(250, &table, &mut file);
-    say::text(b"write, 250 atoms with 1000 bonds");
+    let written = bnw::write(Network::ATOMS, &table, &mut file);
+    say::text(b"write, the most atoms and bonds");
     say::answer(written.answer);
     say::number(written.bytes);
     say::line();
@@ -152,7 +152,7 @@ fn again(file: &[u8], table: &[u16]) {
     }
     let mut read = [0u16; 2000];
     let reading = bnw::read(&file[..4009], &mut read);
-    say::text(b"read, 250 atoms with 1000 bonds");
+    say::text(b"read, the most atoms and bonds");
     show(reading);
     say::text(b"the same words of 2000");
     say::number(models::alike(table, &read));

@@ -36,8 +36,8 @@ fn allowances() {
     rings(b"allowance 0", 7, &table, 0, 0);
     rings(b"allowance 3", 7, &table, 0, 3);
     rings(b"allowance 4", 7, &table, 0, 4);
-    rings(b"allowance 1000000", 7, &table, 0, 1000000);
-    rings(b"allowance 1000001", 7, &table, 0, 1000001);
+    rings(b"the greatest allowance", 7, &table, 0, Ring::ALLOWANCE);
+    rings(b"one ring more", 7, &table, 0, Ring::ALLOWANCE + 1);
 }
 
 // Fig. 1 into too few words, enough, and one more.
@@ -111,8 +111,20 @@ fn cycles() {
 fn crowded() {
     let mut table = [Network::FREE; 320];
     models::layers(&mut table, 10);
-    rings(b"ten layers of four at limit 24", 40, &table, 24, 1000000);
-    rings(b"ten layers of four at limit 4", 40, &table, 4, 1000000);
+    rings(
+        b"ten layers of four at limit 24",
+        40,
+        &table,
+        24,
+        Ring::ALLOWANCE,
+    );
+    rings(
+        b"ten layers of four at limit 4",
+        40,
+        &table,
+        4,
+        Ring::ALLOWANCE,
+    );
 }
 
 // Counts the rings of n atoms: the answer, limit used, total, words, averages, and the counts above 0.

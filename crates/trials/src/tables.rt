@@ -11,12 +11,23 @@ pub fn run() {
 
 // 1 and 4: the number of atoms and the length of the table.
 fn sizes() {
-    let mut table = [0u16; 2008];
+    let mut table = [0u16; (Network::ATOMS + 1) * Network::PLACES];
     models::clear(&mut table);
     judge(b"validate, no atoms", 0, &table, 0);
     judge(b"validate, 1 atom", 1, &table, 8);
-    judge(b"validate, 250 atoms", 250, &table, 2000);
-    judge(b"validate, 251 atoms", 251, &table, 2008);
+    let most = Network::ATOMS;
+    judge(
+        b"validate, the most atoms",
+        most,
+        &table,
+        most * Network::PLACES,
+    );
+    judge(
+        b"validate, one atom more",
+        most + 1,
+        &table,
+        (most + 1) * Network::PLACES,
+    );
     judge(b"validate, 2 atoms in 15 words", 2, &table, 15);
     judge(b"validate, 2 atoms in 16 words", 2, &table, 16);
     judge(b"validate, 2 atoms in 17 words", 2, &table, 17);
