@@ -5,6 +5,7 @@ use network::Network;
 
 pub fn run() {
     sizes();
+    answers();
     places();
     figure();
 }
@@ -31,6 +32,15 @@ fn sizes() {
     judge(b"validate, 2 atoms in 15 words", 2, &table, 15);
     judge(b"validate, 2 atoms in 16 words", 2, &table, 16);
     judge(b"validate, 2 atoms in 17 words", 2, &table, 17);
+}
+
+// 11: two atoms, 1 in row 0 only, and then answered.
+fn answers() {
+    let mut table = [Network::FREE; 16];
+    table[0] = 1;
+    judge(b"validate, two atoms, 1 in row 0 only", 2, &table, 16);
+    table[8] = 0;
+    judge(b"validate, two atoms, bonded", 2, &table, 16);
 }
 
 // 7 to 11, at a place of a row of three atoms.
