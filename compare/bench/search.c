@@ -51,12 +51,16 @@ static bool every_pair(const given *g, const uint16_t *path)
     return true;
 }
 
-/* The first atom from `from` on at a distance, in a row of the distance buffer, or n. */
+/* The first atom from `from` on at a distance, in a row of the distance buffer, or n: two at a time, as the library. */
 static size_t next_at(const uint8_t *row, size_t n, size_t way, size_t from)
 {
-    while (from < n && row[from] != way)
-        from++;
-    return from;
+    for (; from + 1 < n; from += 2) {
+        if (row[from] == way)
+            return from;
+        if (row[from + 1] == way)
+            return from + 1;
+    }
+    return from < n && row[from] == way ? from : n;
 }
 
 /* The first atom from `from` on that fits just past half the ring once a follows, or 0; `from` past that place. */

@@ -1,4 +1,4 @@
--- Laws of the network file. What is claimed stands in RoundTrips, FirstBonds and Examples; the others lead there.
+-- Laws of the network file. What is claimed stands in RoundTrips and FirstBonds; the others lead there.
 pub mod Runs
 pub mod Signs
 pub mod HeadFaults
@@ -14,4 +14,3 @@ pub mod Returns
 pub mod Accepted
 pub mod RoundTrips
 pub mod FirstBonds
-pub mod Examples

@@ -14,7 +14,7 @@ use Rattle.network.specs.Network.{Counted}
 use Rattle.network.specs.Verdict.{refusal, answer}
 use Rattle.bnw.specs.File.{Bond, version, bondsMost, headLength, bondLength, partners, ValidBonds, tableOf}
 use Rattle.bnw.specs.Reading.{field, Bytes, marked, inside, follows, full, bondIn, bondsBelow, bondFault, firstBond, orAt, headFault, readVerdict, readValue, Reads}
-use Rattle.bnw.proofs.Runs.{sets-front}
+use Rattle.graph.proofs.Lists.{sets-front}
 use Rattle.bnw.proofs.Partners.{table-length}
 use Rattle.bnw.proofs.BondFaults.{given}
 use Rattle.bnw.proofs.HeadFaults.{head-19, head-20, head-21, head-22-low, head-22-high, head-23, head-24, head-25, value-else}

@@ -5,8 +5,8 @@ use Prim.Native.Nat.{ℕ, zero, suc, _+_, _-_, _≤_, _<_}
 use native.Mathlib.Numerals.{add-one}
 use native.Mathlib.Omega.{arith}
 use native.Mathlib.Decide.{ℕ-discrete}
-use lib.ListN.{length, drop, set, replicate, length-append, length-replicate, replicate-append-replicate}
-use lib.Seq.{sets, sets-eq}
+use lib.ListN.{length, set, replicate, length-append, length-replicate, replicate-append-replicate}
+use lib.Seq.{sets}
 use Rattle.graph.specs.Lists.{gather, count}
 
 -- one run after another
@@ -16,10 +16,6 @@ sets-append l i (v ∷ vs) ws = let e : i + suc (length vs) ≡ suc i + length v
 
 pub sets-after : (l m : List ℕ) (i at : ℕ) (vs ws : List ℕ) → m ≡ sets l i vs → at ≡ i + length vs → sets m at ws ≡ sets l i (vs ++ ws)
 sets-after l m i at vs ws e d = rw (e, d) (sets-append l i vs ws)
-
--- a run from the start
-pub sets-front : (l vs : List ℕ) → length vs ≤ length l → sets l 0 vs ≡ vs ++ drop (length vs) l
-sets-front l vs h = let e : 0 + length vs ≡ length vs = omega arith in sets-eq vs l 0 (omega arith) ∙ ap (λ (k : ℕ). vs ++ drop k l) e
 
 pub replicate-more : (k a : ℕ) → replicate k a ++ (a ∷ []) ≡ replicate (k + 1) a
 replicate-more k a = replicate-append-replicate k 1 a

@@ -18,7 +18,8 @@ use Rattle.network.proofs.Verdicts.{atoms, long, faults-kept}
 use Rattle.network.proofs.Networks.{network-of, faultless-of, accepted-of}
 use Rattle.bnw.specs.File.{Bond, fileOf, headOf, bondsOf, bondBytes, headLength, bondLength}
 use Rattle.bnw.specs.Writing.{writeVerdict, Writes}
-use Rattle.bnw.proofs.Runs.{sets-after, sets-front}
+use Rattle.graph.proofs.Lists.{sets-front}
+use Rattle.bnw.proofs.Runs.{sets-after}
 use Rattle.bnw.proofs.TableBonds.{bytes-length}
 
 pub file-length : (n : ℕ) (bonds : List Bond) → length (fileOf n bonds) ≡ headLength + bondLength * length bonds

@@ -3,15 +3,13 @@ use mathlib.Core.Path.{_≡_, refl, sym, _∙_, ap, ap₂, subst}
 use mathlib.Core.List.{List}
 use Prim.Native.Nat.{ℕ}
 use native.Mathlib.Omega.{arith}
-use lib.ListN.{length}
 use Rattle.network.specs.declared.Answer.{Answer}
-use Rattle.network.specs.Verdict.{verdict}
 use Rattle.network.proofs.Networks.{network-of}
 use Rattle.distance.proofs.Outcomes as distance
 use Rattle.ring.proofs.Outcomes as ring
 use Rattle.search.specs.declared.Census.{Census}
-use Rattle.search.specs.Census.{afterCount, afterList}
 use Rattle.search.proofs.OneOutcome.{count-once, list-once}
+use Rattle.search.proofs.Settled.{reached}
 use Rattle.renumber.proofs.OneOutcome as renumber
 use Rattle.bnw.specs.Reading.{atomsIn, bondsIn}
 use Rattle.bnw.proofs.HeadFaults.{value-22, value-23, value-else}
@@ -21,7 +19,6 @@ use Rattle.demands.specs.FileRefusals.{ReadSays}
 use Rattle.demands.specs.Calls.{Validate, Distances, Candidate, Count, Lists, Renumber, Write, Read}
 use Rattle.demands.proofs.Refusals.{validate-says, distances-says, candidate-says, renumber-says, write-says}
 use Rattle.demands.proofs.OneAnswer.{one-accepted, one-check, one-places, one-table, one-of-rings, one-bonds}
-use Rattle.demands.proofs.Searches.{reached}
 use Rattle.demands.proofs.SearchRefusals.{count-says, list-says, count-leaves, list-leaves}
 use Rattle.demands.proofs.FileRefusals.{read-says}
 use Rattle.demands.proofs.Rings.{accepted-count, accepted-listing}
@@ -88,7 +85,7 @@ count-fixed n t limit allowance dist = record {
   gives = λ o h. count-says n t limit allowance dist (o .1) (o .0) h;
   only = one-check 1 _ _ (one-check 2 _ _ (one-check 3 _ _ (one-check 4 _ _ (one-check 5 _ _ (one-table n t _ (one-of-rings t limit _ λ rings. one-check 12 _ _ one-accepted))))));
   refused = λ o h. count-leaves n t limit allowance dist (o .1) (o .0) h;
-  done = λ o h z. (reached n t limit allowance dist (afterCount allowance) (o .1) (o .0) h z .filled, accepted-count n t limit allowance dist (o .1) (o .0) h z);
+  done = λ o h z. (reached h z .filled, accepted-count n t limit allowance dist (o .1) (o .0) h z);
   one = λ o p h k. both o p (count-once n t limit allowance dist (o .1) (p .1) (o .0) (p .0) h k);
 }
 
@@ -97,7 +94,7 @@ list-fixed n t limit allowance dist list = record {
   gives = λ o h. list-says n t limit allowance dist (o .1) list (o .2) (o .0) h;
   only = one-check 1 _ _ (one-check 2 _ _ (one-check 3 _ _ (one-check 4 _ _ (one-check 5 _ _ (one-table n t _ (one-of-rings t limit _ λ rings. one-check 12 _ _ (one-check 13 _ _ one-accepted)))))));
   refused = λ o h z. (list-leaves n t limit allowance dist (o .1) list (o .2) (o .0) h z, h .kept z);
-  done = λ o h z. (reached n t limit allowance dist (afterList allowance (length list)) (o .1) (o .0) (h .census) z .filled, accepted-listing n t limit allowance dist (o .1) list (o .2) (o .0) h z);
+  done = λ o h z. (reached (h .census) z .filled, accepted-listing n t limit allowance dist (o .1) list (o .2) (o .0) h z);
   one = λ o p h k. three o p (list-once n t limit allowance dist list (o .1) (p .1) (o .2) (p .2) (o .0) (p .0) h k);
 }
 

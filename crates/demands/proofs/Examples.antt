@@ -11,14 +11,14 @@ use Rattle.graph.specs.Listing.{RingListing}
 use Rattle.graph.proofs.Listings.{ring-listing-unique}
 use Rattle.network.specs.declared.Answer.{Answer}
 use Rattle.network.specs.Network.{Bonded}
-use Rattle.network.specs.Examples.{Example, tableOf, Holds, AllHold, examples, P1, P2, P3, P4, P5, P6, P7, P8, P9, P10, P11a, P11b}
+use Rattle.examples.specs.Examples.{Example, tableOf, Holds, AllHold, examples, P1, P2, P3, P4, P5, P6, P7, P8, P9, P10, P11a, P11b}
 use Rattle.network.proofs.Networks.{network-of}
-use Rattle.network.proofs.Examples.{examples-hold}
+use Rattle.examples.proofs.Examples.{examples-hold}
 use Rattle.ring.specs.Maxima.{ringLeast, ringMost}
 use Rattle.search.specs.declared.Census.{Census}
 use Rattle.search.specs.Census.{limitOf, beforeSearch, encode, censusOf, afterList, settled}
 use Rattle.search.proofs.Passed.{limit-given, reached-exactly}
-use Rattle.bnw.proofs.Runs.{sets-front}
+use Rattle.graph.proofs.Lists.{sets-front}
 use Rattle.demands.specs.Examples.{ExamplesHold, ExamplesListed}
 
 pub examples-all : ExamplesHold

@@ -1,4 +1,4 @@
--- That the demands are met. Read Demands; the rest serves it.
+-- That the demands are met. Read Demands, and FigureFile beside it; the rest serves them.
 pub mod Chains
 pub mod OneAnswer
 pub mod Refusals
@@ -10,4 +10,5 @@ pub mod FileRefusals
 pub mod Calls
 pub mod Renumbering
 pub mod Examples
+pub mod FigureFile
 pub mod Demands

@@ -16,8 +16,9 @@ use Rattle.renumber.proofs.Carried.{call-carries}
 use Rattle.ring.specs.Maxima.{ringMost}
 use Rattle.search.specs.declared.Census.{Census}
 use Rattle.search.specs.Census.{limitOf, beforeSearch, encode, countsOf, noCensus, settled, afterCount, afterList, Searched, Outcome}
+use Rattle.search.proofs.Settled.{code}
 use Rattle.demands.specs.Renumbering.{SameRings, RenumberThenList, RenumberThenCount}
-use Rattle.demands.proofs.Searches.{code, encode-words, of-length, before-network, lists-rings}
+use Rattle.demands.proofs.Searches.{encode-words, before-network, lists-rings}
 
 map-alike : (f g : ℕ → ℕ) (ks : List ℕ) → ((k : ℕ) → f k ≡ g k) → map f ks ≡ map g ks
 map-alike f g [] h = refl
@@ -27,7 +28,7 @@ map-alike f g (k ∷ ks) h = ap₂ (λ (x : ℕ) (xs : List ℕ). x ∷ xs) (h k
 module _ (xs ys : List (List ℕ)) (each : (k : ℕ) → ofLength k xs ≡ ofLength k ys) (all : length xs ≡ length ys) (words : length (encode xs) ≡ length (encode ys)) where
   same-counts : countsOf xs ≡ countsOf ys
   unfolding countsOf
-  same-counts = map-alike _ _ (count (ringMost + 1) 0) (λ k. of-length k xs ∙ each k ∙ sym (of-length k ys))
+  same-counts = map-alike _ _ (count (ringMost + 1) 0) each
 
   same-settled : (n limit : ℕ) (a b : Answer) → a ≡ b → settled n limit a xs ≡ settled n limit b ys
   same-settled n limit a b e = rw (e, same-counts, all, words)

@@ -19,8 +19,9 @@ use Rattle.search.specs.declared.Census.{Census}
 use Rattle.search.specs.Averages.{meanOf}
 use Rattle.search.specs.Census.{limitOf, encode, censusOf, afterCount, afterList}
 use Rattle.search.proofs.Counts.{count-at}
+use Rattle.search.proofs.Settled.{reached, told-count}
 use Rattle.demands.specs.Rings.{RoundIsDistance, StandsOnce, StandExactly, Numbers, Tells, AcceptedListing, AcceptedCount}
-use Rattle.demands.proofs.Searches.{encode-words, words-lengths, of-length, reached, reached-network, settled-count, lists-rings}
+use Rattle.demands.proofs.Searches.{encode-words, words-lengths, reached-network, lists-rings}
 
 module _ (n : ℕ) (t : List ℕ) (N : IsNetwork n t) (limit : ℕ) (rings : List (List ℕ)) (X : RingListing (Bonded t) limit rings) where
   back : (x y : ℕ) → Bonded t x y → Bonded t y x
@@ -70,7 +71,7 @@ module _ (n : ℕ) (t : List ℕ) (N : IsNetwork n t) (limit : ℕ) (rings : Lis
 
 numbers : (n limit : ℕ) (rings : List (List ℕ)) → Numbers n rings (censusOf n limit rings)
 numbers n limit rings = record {
-  counts = λ k l. count-at rings k l ∙ of-length k rings;
+  counts = λ k l. count-at rings k l;
   total = refl;
   words = encode-words rings;
   per-atom = refl;
@@ -85,9 +86,9 @@ tells n t N limit rings X = record { used = refl; rings = rings; stand = stand-e
 
 pub accepted-count : AcceptedCount
 accepted-count n t limit allowance d d′ c O z =
-    let S = reached n t limit allowance d (afterCount allowance) d′ c O z in
+    let S = reached O z in
     let N = reached-network n t limit allowance d (afterCount allowance) d′ c O z in
-    subst (Tells n t limit) (sym (settled-count n limit allowance (S .rings) c (S .says) z)) (tells n t N limit (S .rings) (S .listing))
+    subst (Tells n t limit) (sym (told-count n limit allowance (S .rings) c (S .says) z .0)) (tells n t N limit (S .rings) (S .listing))
 
 pub accepted-listing : AcceptedListing
 accepted-listing n t limit allowance d d′ l l′ c O z =

@@ -9,7 +9,7 @@ use mathlib.Core.List.{List, _++_}
 use Prim.Native.Nat.{ℕ, _*_, _≤_}
 use lib.ListN.{length, drop}
 use Rattle.graph.specs.Lists.{_∈_}
-use Rattle.network.specs.Examples.{Example, tableOf, AllHold, examples}
+use Rattle.examples.specs.Examples.{Example, tableOf, AllHold, examples}
 use Rattle.ring.specs.Maxima.{allowanceMost}
 use Rattle.search.specs.declared.Census.{Census}
 use Rattle.search.specs.Census.{encode, censusOf, ListOutcome}

@@ -107,9 +107,7 @@ abbrev pub ListSays : ℕ → List ℕ → ℕ → ℕ → List ℕ → List ℕ
 ListSays n t limit allowance dist list =
     SearchSays n t limit allowance dist
     (OfRings t limit λ rings.
-    Check 12 (length rings ≤ allowance)
-    (Check 13 (wordsOf rings ≤ length list)
-    Accepted))
+    Check 12 (length rings ≤ allowance) (Check 13 (wordsOf rings ≤ length list) Accepted))
 
 abbrev pub RenumberSays : ℕ → List ℕ → List ℕ → List ℕ → Says
 RenumberSays n t names renamed =

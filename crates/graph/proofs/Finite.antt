@@ -2,8 +2,8 @@
 --
 --   BondedBy adj x y            y is among the neighbours of x
 --   FiniteNetwork size adj      neighbours are atoms, bonds are answered, and each list ascends
-use mathlib.Core.Path.{_≡_, refl, sym, _∙_, ap, subst}
-use mathlib.Core.Logic.{_⊎_, inl, inr, _↔_}
+use mathlib.Core.Path.{_≡_, refl, sym, subst}
+use mathlib.Core.Logic.{_⊎_, inl, inr}
 use mathlib.Core.Bool.{Bool, true, false}
 use mathlib.Core.List.{List, [], _∷_, List·Memᴰ·head}
 use Prim.Native.Nat.{ℕ, zero, suc, _-_, _≤_, _<_}
@@ -11,7 +11,7 @@ use native.Mathlib.Decide.{decLe, ℕ-discrete}
 use native.Mathlib.Omega.{arith}
 use lib.Dec.{T, eqb, eqb→eq, eqb-refl}
 use Rattle.graph.specs.Lists.{_∈_, Ascending}
-use Rattle.graph.specs.Graph.{Walk, via, Path, Distance, Tells}
+use Rattle.graph.specs.Graph.{Walk, via, Distance, Tells}
 use Rattle.graph.specs.Levels.{elem, hit, levels, after}
 use Rattle.graph.proofs.Distances.{via-in, distance-of}
 use Rattle.graph.proofs.Levels.{elem-of, elem-has, after-has, walk-from, hit-distance, hit-never}

@@ -1,7 +1,7 @@
 -- Breadth-first levels compute the distance.
-use mathlib.Core.Path.{_≡_, refl, sym, _∙_, ap, subst}
+use mathlib.Core.Path.{_≡_, refl, sym, _∙_, subst}
 use mathlib.Core.Logic.{_⊎_, inl, inr, _↔_}
-use mathlib.Core.Bool.{Bool, true, false, _||_, not}
+use mathlib.Core.Bool.{Bool, true, false, not}
 use mathlib.Core.List.{List, [], _∷_, List·Memᴰ·head, List·Memᴰ·tail, List·Memᴰ·not-nil, List·Memᴰ·cases-cons, Memᴰ·cast}
 use Prim.Native.Nat.{ℕ, zero, suc, _+_, _≤_, _<_}
 use native.Mathlib.Omega.{arith}
@@ -11,7 +11,7 @@ use Rattle.graph.specs.Lists.{_∈_, gather, consIf}
 use Rattle.graph.specs.Graph.{Walk, Distance}
 use Rattle.graph.specs.Levels.{elem, once, hit, spread, levels, after}
 use Rattle.graph.proofs.Lists.{gather-of, gather-has, or-T, T-or-l, T-or-r}
-use Rattle.graph.proofs.Distances.{Nearest, nearest-of, distance-of}
+use Rattle.graph.proofs.Distances.{nearest-of, distance-of}
 
 module _ {A : Type 0} (eq : A → A → Bool) (eq-of : (a b : A) → T (eq a b) → a ≡ b) (eq-self : (a : A) → T (eq a a)) where
   pub elem-of : (y : A) (xs : List A) → T (elem eq y xs) → y ∈ xs

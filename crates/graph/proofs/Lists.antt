@@ -1,4 +1,4 @@
--- Laws of lists: what is gathered, kept and counted, tests, and ascending lists, which their members determine.
+-- Laws of lists: what is written from the start, gathered, kept and counted, tests, and ascending lists, which their members determine.
 use mathlib.Core.Path.{_≡_, refl, sym, _∙_, ap, ap₂, subst}
 use mathlib.Core.Logic.{_≢_, _⊎_, inl, inr}
 use mathlib.Core.Bool.{Bool, true, false, _&&_, _||_}
@@ -7,8 +7,13 @@ use Prim.Native.Nat.{ℕ, zero, suc, _+_, _≤_, _<_}
 use native.Mathlib.Omega.{arith}
 use native.Mathlib.Decide.{ℕ-discrete}
 use lib.Dec.{T}
-use lib.ListN.{length, getD, length-map}
+use lib.ListN.{length, getD, drop, length-map}
+use lib.Seq.{sets, sets-eq}
 use Rattle.graph.specs.Lists.{_∈_, Ascending, gather, consIf, keep, count, every}
+
+-- words written from the start of a list stand before its rest
+pub sets-front : (l vs : List ℕ) → length vs ≤ length l → sets l 0 vs ≡ vs ++ drop (length vs) l
+sets-front l vs h = let e : 0 + length vs ≡ length vs = omega arith in sets-eq vs l 0 (omega arith) ∙ ap (λ (k : ℕ). vs ++ drop k l) e
 
 pub and-T : (a b : Bool) → T (a && b) → T a × T b
 and-T true true h = (tt, tt)

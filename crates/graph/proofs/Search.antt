@@ -3,13 +3,13 @@ use mathlib.Core.Path.{_≡_, refl, sym, _∙_, ap, subst, subst₂}
 use mathlib.Core.Logic.{_⊎_, inl, inr, _↔_}
 use mathlib.Core.Bool.{Bool, _&&_}
 use mathlib.Core.List.{List, [], _∷_, _++_, map, append-assoc, append-nil, List·Memᴰ·head, List·Memᴰ·tail, List·Memᴰ·not-nil, List·Memᴰ·cases-cons}
-use Prim.Native.Nat.{ℕ, zero, suc, _+_, _-_, _≤_, _<_, min}
+use Prim.Native.Nat.{ℕ, zero, suc, _+_, _-_, _≤_, _<_}
 use native.Mathlib.Omega.{arith}
 use lib.Dec.{T, eqb, eqb→eq, eqb-refl}
 use lib.ListN.{length, getD, take}
 use lib.Seq.{getD-take, length-take-le}
-use Rattle.graph.specs.Lists.{_∈_, Ascending, gather, keep, count}
-use Rattle.graph.specs.Graph.{Distance, around, Ring, ShortestPathRing}
+use Rattle.graph.specs.Lists.{_∈_, Ascending, count}
+use Rattle.graph.specs.Graph.{Distance, around, ShortestPathRing}
 use Rattle.graph.specs.Listing.{Lex, Before, Listing}
 use Rattle.graph.specs.Search.{grow, apart, following, rings, ringsWithin}
 use Rattle.graph.proofs.Lists.{gather-of, gather-has, keep-of, keep-has, map-of, map-has, count-of, count-has, count-ascending, and-T, T-and, keep-ascending, gather-ascending}

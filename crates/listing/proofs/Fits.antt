@@ -2,7 +2,7 @@
 use mathlib.Core.Path.{_≡_, refl, sym, _∙_, ap}
 use mathlib.Core.Bool.{Bool, true, false}
 use mathlib.Core.List.{List}
-use Prim.Native.Nat.{ℕ, _*_, _≤_, _<_}
+use Prim.Native.Nat.{ℕ, _*_, _≤_}
 use native.Mathlib.Nat.{mul-le-mul}
 use native.Mathlib.Decide.{ℕ-discrete}
 use native.Mathlib.Omega.{arith}
@@ -12,7 +12,7 @@ use lib.ListN.{length, take}
 use lib.Seq.{length-take-le}
 use Rattle.network.specs.Maxima.{atomsMost}
 use Rattle.search.specs.declared.Census.{Census}
-use Rattle.search.specs.Census.{ListOutcome, Searched, beforeSearch, afterList, encode, settled}
+use Rattle.search.specs.Census.{ListOutcome, beforeSearch, afterList, encode, settled}
 
 pub part-length : (k : ℕ) (l : List ℕ) → k ≤ length l → k ≡ length (take k l)
 part-length k l h = sym (length-take-le k l h)

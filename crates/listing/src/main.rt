@@ -7,7 +7,6 @@ use ring::Ring;
 use text::Pen;
 ghost use Prim.Native.Nat.{_*_, _≤_};
 ghost use lib.ListN.{length};
-ghost use Rattle.network.specs.Maxima.{places};
 ghost use Rattle.network.specs.Network.{Counted};
 
 // One byte more than the greatest file has, so that any longer one is refused.

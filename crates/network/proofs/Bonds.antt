@@ -1,7 +1,7 @@
 -- Bonds of an accepted network are answered, join two atoms, are the bonds of a finite graph, and determine the table.
 use mathlib.Core.Path.{_≡_, refl, sym, _∙_, ap, subst}
 use mathlib.Core.Logic.{_↔_}
-use mathlib.Core.Bool.{Bool, not}
+use mathlib.Core.Bool.{not}
 use mathlib.Core.List.{List}
 use Prim.Native.Nat.{ℕ, zero, suc, _+_, _-_, _*_, _/_, _%_, _≤_, _<_, min}
 use native.Mathlib.Omega.{arith}
@@ -9,10 +9,10 @@ use native.Mathlib.Decide.{decLt, ℕ-discrete}
 use lib.Dec.{T, eqb, eqb→eq, eqb-refl, T-not, not-T}
 use lib.ListN.{length, getD, take, drop, length-take, length-drop}
 use lib.Seq.{getD-take, getD-drop, ext-getD}
-use Rattle.graph.specs.Lists.{_∈_, Ascending}
+use Rattle.graph.specs.Lists.{_∈_}
 use Rattle.graph.proofs.Lists.{keep-of, keep-has, keep-ascends, place-of, at-place}
 use Rattle.graph.proofs.Finite.{BondedBy, FiniteNetwork}
-use Rattle.network.specs.Maxima.{atomsMost, places, free}
+use Rattle.network.specs.Maxima.{places, free}
 use Rattle.network.specs.Network.{word, Holds, Bonded, IsNetwork, neighbours}
 
 module _ (t : List ℕ) (x : ℕ) where

@@ -1,17 +1,17 @@
 -- The verdict names the first fault, in the outline's order.
 use mathlib.Core.Path.{_≡_, refl, sym, _∙_, ap, subst}
-use mathlib.Core.Logic.{_⊎_, inl, inr}
+use mathlib.Core.Logic.{inl, inr}
 use mathlib.Core.Bool.{Bool, true, false}
 use mathlib.Core.List.{List}
 use Prim.Native.Nat.{ℕ, zero, suc, _+_, _-_, _*_, _/_, _%_, _≤_, _<_}
 use native.Mathlib.Omega.{arith}
-use native.Mathlib.Decide.{decLe, decLt, ℕ-discrete}
+use native.Mathlib.Decide.{decLe, ℕ-discrete}
 use lib.ListN.{length, getD}
 use Rattle.network.specs.declared.Answer.{Answer}
 use Rattle.network.specs.Maxima.{atomsMost, places, free}
-use Rattle.network.specs.Network.{word, Holds, Bonded, Counted, IsNetwork}
-use Rattle.network.specs.Verdict.{placeFault, bondFault, firstFault, orElse, answer, accepted, refusal, verdict, faults, stands}
-use Rattle.network.specs.FirstFault.{AtPlace, Unanswered, Earlier, NamesPlace, NamesBond, NamesFirst, Judged}
+use Rattle.network.specs.Network.{word, Holds, Counted}
+use Rattle.network.specs.Verdict.{placeFault, bondFault, firstFault, orElse, answer, accepted, verdict, faults, stands}
+use Rattle.network.specs.FirstFault.{AtPlace, Unanswered, NamesFirst, Judged}
 use Rattle.network.proofs.PlaceFaults.{fault-free, fault-7, fault-8, fault-9, fault-9-first, fault-10, fault-none, fault-none-first, bond-free, bond-answered, bond-unanswered}
 use Rattle.network.proofs.Verdicts.{clean-at, kept, clean, not-atoms-low, not-atoms-high, verdict-1, verdict-4, verdict-faults}
 use Rattle.network.proofs.Networks.{right, found, finds, network-of, accepted-of, free-stays}

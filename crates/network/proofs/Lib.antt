@@ -5,4 +5,3 @@ pub mod Verdicts
 pub mod Networks
 pub mod Bonds
 pub mod FirstFaults
-pub mod Examples

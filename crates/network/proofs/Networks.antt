@@ -12,7 +12,7 @@ use Rattle.network.specs.declared.Answer.{Answer}
 use Rattle.network.specs.Maxima.{atomsMost, places, free}
 use Rattle.network.specs.Network.{word, Holds, Counted, IsNetwork}
 use Rattle.network.specs.Verdict.{placeFault, bondFault, firstFault, orElse, accepted, verdict, faults, stands}
-use Rattle.network.proofs.PlaceFaults.{fault-free, fault-7, fault-8, fault-9, fault-9-first, fault-10, fault-none, fault-none-first, bond-free, bond-answered, bond-unanswered}
+use Rattle.network.proofs.PlaceFaults.{fault-free, fault-8, fault-9, fault-9-first, fault-10, fault-none, fault-none-first, bond-free, bond-answered, bond-unanswered}
 use Rattle.network.proofs.Verdicts.{clean-at, below, not-atoms-low, not-atoms-high, verdict-1, verdict-4, verdict-faults, says-place, says-bond}
 
 -- what no fault at word i says, and what says so

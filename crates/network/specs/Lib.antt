@@ -3,5 +3,3 @@ pub mod Maxima
 pub mod Network
 pub mod Verdict
 pub mod FirstFault
-pub mod Examples
-pub mod Computed

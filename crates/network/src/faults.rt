@@ -2,7 +2,7 @@
 use crate::Answer;
 use crate::Network;
 ghost use mathlib.Core.Path.{_≡_};
-ghost use Prim.Native.Nat.{ℕ, _+_, _*_, _≤_, _<_};
+ghost use Prim.Native.Nat.{_+_, _*_, _≤_, _<_};
 ghost use lib.ListN.{length};
 ghost use Rattle.network.specs.Maxima.{places};
 ghost use Rattle.network.specs.Verdict.{accepted, faults, firstFault, placeFault, bondFault, stands, WordsBelow};

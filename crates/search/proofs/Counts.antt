@@ -11,7 +11,8 @@ use borrow.Author.Tests.{eq-eqb, ne-eqb}
 use Rattle.graph.specs.Lists.{_∈_, count}
 use Rattle.graph.proofs.Lists.{getD-map, length-count, getD-count}
 use Rattle.ring.specs.Maxima.{ringLeast, ringMost}
-use Rattle.search.specs.Census.{ofLength, countsOf}
+use Rattle.graph.specs.Counts.{ofLength}
+use Rattle.search.specs.Census.{countsOf}
 use Rattle.search.specs.Search.{gatherBelow, ringsOf, ringsUpTo, countsUpTo}
 use Rattle.search.specs.Turn.{mayFollow}
 use Rattle.search.proofs.Below.{gather-elim}
@@ -19,15 +20,12 @@ use Rattle.search.proofs.Members.{listed-only}
 
 module _ (k : ℕ) where
   of-here : (r : List ℕ) (xs : List (List ℕ)) → length r ≡ k → ofLength k (r ∷ xs) ≡ suc (ofLength k xs)
-  unfolding ofLength
   of-here r xs e = rw (eq-eqb (length r) k e)
 
   of-other : (r : List ℕ) (xs : List (List ℕ)) → (length r ≡ k → ⊥) → ofLength k (r ∷ xs) ≡ ofLength k xs
-  unfolding ofLength
   of-other r xs e = rw (ne-eqb (length r) k e)
 
   of-append : (xs ys : List (List ℕ)) → ofLength k (xs ++ ys) ≡ ofLength k xs + ofLength k ys
-  unfolding ofLength
   of-append [] ys = sym (zero-add _)
   of-append (r ∷ xs) ys =
       elim (ℕ-discrete (length r) k) [
@@ -36,12 +34,10 @@ module _ (k : ℕ) where
       ]
 
   of-none : (xs : List (List ℕ)) → ((r : List ℕ) → r ∈ xs → length r ≡ k → ⊥) → ofLength k xs ≡ 0
-  unfolding ofLength
   of-none [] h = refl
   of-none (r ∷ xs) h = of-other r xs (h r (List·Memᴰ·head refl)) ∙ of-none xs (λ s m. h s (List·Memᴰ·tail m))
 
   of-all : (xs : List (List ℕ)) → ((r : List ℕ) → r ∈ xs → length r ≡ k) → ofLength k xs ≡ length xs
-  unfolding ofLength
   of-all [] h = refl
   of-all (r ∷ xs) h = of-here r xs (h r (List·Memᴰ·head refl)) ∙ ap suc (of-all xs (λ s m. h s (List·Memᴰ·tail m)))
 
@@ -57,7 +53,7 @@ count-at xs k l =
     ∙ ap (λ m. ofLength m xs) (getD-count (ringMost + 1) 0 k 0 (omega arith) ∙ omega arith)
 
 counts-none : replicate (ringMost + 1) 0 ≡ countsOf []
-unfolding countsOf ofLength
+unfolding countsOf
 counts-none = refl
 
 -- one length more: none before has it, and all that are added have

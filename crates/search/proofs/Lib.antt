@@ -12,5 +12,6 @@ pub mod Harmless
 pub mod Listed
 pub mod Passed
 pub mod Counts
+pub mod Settled
 pub mod Outcomes
 pub mod OneOutcome

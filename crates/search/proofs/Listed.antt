@@ -13,7 +13,7 @@ use Rattle.graph.proofs.Rings.{ring-by-distances}
 use Rattle.graph.proofs.Distances.{distance-unique}
 use Rattle.network.specs.Network.{Bonded, IsNetwork}
 use Rattle.network.proofs.Bonds.{bonded-from, bonded-to, bonded-back}
-use Rattle.distance.specs.Distances.{noPath, distance, DistanceTable}
+use Rattle.distance.specs.Distances.{noPath, DistanceTable}
 use Rattle.ring.specs.Maxima.{ringLeast, ringMost}
 use Rattle.search.specs.Search.{ringsUpTo}
 use Rattle.search.specs.Turn.{mayFollow}

@@ -16,9 +16,7 @@ use Rattle.network.specs.Verdict.{check, accepted}
 use Rattle.distance.proofs.Outcomes.{table-unique}
 use Rattle.search.specs.declared.Census.{Census}
 use Rattle.search.specs.Census.{encode, limitOf, beforeSearch, afterCount, afterList, settled, Searched, Outcome, CountOutcome, ListOutcome}
-
-abbrev code : Census → ℕ
-code c = c .answer .code
+use Rattle.search.proofs.Settled.{code, unrefused, reached}
 
 module _ (n : ℕ) (t : List ℕ) (limit allowance : ℕ) (before : List ℕ) where
   -- two searches of one network find one list of rings, and leave one table
@@ -43,14 +41,6 @@ module _ (n : ℕ) (t : List ℕ) (limit allowance : ℕ) (before : List ℕ) wh
   count-once after after′ c e = outcome-once (afterCount allowance) (afterCount allowance) c e (λ _ _. refl) after after′
 
   module _ (l : List ℕ) where
-    -- an accepted call has searched
-    reached : (f : List (List ℕ) → Answer) (after : List ℕ) (c : Census) → Outcome n t limit allowance f before after c → code c ≡ 0 → Searched n t limit f after c
-    reached f after c O z =
-        elim (ℕ-discrete (beforeSearch n t limit allowance before .code) 0) [
-          | yes y ↦ O .searched y
-          | no y ↦ absurd (y (ap code (sym (O .refused y .0)) ∙ z))
-        ]
-
     -- one outcome of listing
     pub list-once : (after after′ l′ l″ : List ℕ) (c e : Census) → ListOutcome n t limit allowance before after l l′ c → ListOutcome n t limit allowance before after′ l l″ e → (c ≡ e) × (after ≡ after′) × (l′ ≡ l″)
     list-once after after′ l′ l″ c e O Q =
@@ -58,7 +48,7 @@ module _ (n : ℕ) (t : List ℕ) (limit allowance : ℕ) (before : List ℕ) wh
           both .0,
           both .1,
           elim (ℕ-discrete (code c) 0) [
-            | yes z ↦ (let S = reached (afterList allowance (length l)) after c (O .census) z in O .written z (S .rings) (S .listing) ∙ sym (Q .written (ap code (sym (both .0)) ∙ z) (S .rings) (S .listing)))
+            | yes z ↦ (let S = reached (O .census) z in O .written z (S .rings) (S .listing) ∙ sym (Q .written (ap code (sym (both .0)) ∙ z) (S .rings) (S .listing)))
             | no z ↦ O .kept z ∙ sym (Q .kept (λ y. z (ap code (both .0) ∙ y)))
           ],
         )
@@ -80,15 +70,13 @@ module _ (n : ℕ) (t : List ℕ) (limit allowance : ℕ) (before : List ℕ) wh
     pub room-told : (after after′ l′ : List ℕ) (c e : Census) → CountOutcome n t limit allowance before after c → ListOutcome n t limit allowance before after′ l l′ e
         → code c ≡ 0 → c .words ≤ length l → c ≡ e
     room-told after after′ l′ c e O Q z room =
-        let S = reached (afterCount allowance) after c O z in
+        let S = reached O z in
         count-like-list after after′ l′ c e O Q (settles (S .rings) (ltb allowance (length (S .rings))) (S .says) (found (S .rings) (S .listing))) .0
       where
         found : (rings : List (List ℕ)) → RingListing (Bonded t) (limitOf limit) rings → e ≡ settled n limit (afterList allowance (length l) rings) rings
         found rings h =
-            elim (ℕ-discrete (beforeSearch n t limit allowance before .code) 0) [
-              | yes y ↦ (let R = Q .census .searched y in rw (ring-listing-unique (Bonded t) (limitOf limit) rings (R .rings) h (R .listing)) (R .says))
-              | no y ↦ absurd (y (ap code (sym (O .refused y .0)) ∙ z))
-            ]
+            let R = Q .census .searched (unrefused O z) in
+            rw (ring-listing-unique (Bonded t) (limitOf limit) rings (R .rings) h (R .listing)) (R .says)
 
         settles : (rings : List (List ℕ)) (many : Bool) → c ≡ settled n limit (check 12 many accepted) rings → e ≡ settled n limit (check 12 many (check 13 (ltb (length l) (length (encode rings))) accepted)) rings → code e ≡ 13 → ⊥
         settles rings true h g k = omega (arith, k, ap code g)

@@ -1,21 +1,22 @@
 -- The outcome of counting and of listing at each way through them.
 use mathlib.Core.Path.{_≡_, refl, sym, _∙_, ap, subst}
-use mathlib.Core.Bool.{true, false}
+use mathlib.Core.Bool.{Bool, true, false}
 use mathlib.Core.List.{List, [], _∷_}
 use Prim.Native.Nat.{ℕ, _+_, _-_, _/_, _≤_, _<_}
 use native.Mathlib.Omega.{arith}
 use lib.ListN.{length, length-append}
 use lib.Seq.{sets}
+use lib.Dec.{ltb}
 use borrow.Author.Tests.{lt-ltb, le-ltb}
 use Rattle.graph.specs.Listing.{RingListing}
 use Rattle.graph.proofs.Listings.{ring-listing-unique}
 use Rattle.network.specs.declared.Answer.{Answer}
-use Rattle.network.specs.Network.{Bonded, word}
-use Rattle.network.specs.Verdict.{refusal}
+use Rattle.network.specs.Network.{Bonded}
+use Rattle.network.specs.Verdict.{check, refusal, accepted}
 use Rattle.ring.specs.Maxima.{ringLeast, ringMost, allowanceMost}
 use Rattle.search.specs.declared.Census.{Census}
 use Rattle.search.specs.declared.grow.Tally.{Tally}
-use Rattle.search.specs.Census.{encode, limitOf, afterCount, afterList, countsOf, censusWith, censusOf, noCensus, settled, Outcome, CountOutcome, ListOutcome}
+use Rattle.search.specs.Census.{encode, limitOf, beforeSearch, afterCount, afterList, countsOf, censusWith, censusOf, noCensus, settled, Searched, Outcome, CountOutcome, ListOutcome}
 use Rattle.search.specs.Prepared.{Prepared}
 use Rattle.search.specs.Search.{ringsUpTo}
 use Rattle.search.specs.Turn.{mayFollow}
@@ -24,12 +25,10 @@ use Rattle.search.proofs.Passed.{Passed, reached-exactly}
 use Rattle.search.proofs.Listed.{right-as-far, the-listing}
 use Rattle.search.proofs.Counts.{counts-all}
 use Rattle.search.proofs.Noted.{too-many, not-many, total, needed, holds}
+use Rattle.search.proofs.Settled.{code, unrefused, reached, told-count}
 
-abbrev code : Answer → ℕ
-code a = a .code
-
-abbrev census-code : Census → ℕ
-census-code c = c .answer .code
+abbrev number : Answer → ℕ
+number a = a .code
 
 -- a word at least for each ring
 encode-long : (xs : List (List ℕ)) → length xs ≤ length (encode xs)
@@ -42,29 +41,38 @@ same-census n u v c e a b w x p q r s = rw (p, q, r, s)
 
 -- the census as the answer settles it
 module _ (n limit allowance : ℕ) (rings : List (List ℕ)) (c : Census) where
-  settled-12 : (a : Answer) → allowance < length rings → a ≡ refusal 12 → c ≡ noCensus a → (c ≡ settled n limit (afterCount allowance rings) rings) × ((room : ℕ) → c ≡ settled n limit (afterList allowance room rings) rings)
-  settled-12 a l h e = (rw (lt-ltb _ _ l) (e ∙ ap noCensus h), λ room. rw (lt-ltb _ _ l) (e ∙ ap noCensus h))
-
-  settled-13 : (a : Answer) (room : ℕ) → length rings ≤ allowance → room < length (encode rings) → a ≡ refusal 13 → c ≡ noCensus a → c ≡ settled n limit (afterList allowance room rings) rings
-  settled-13 a room l m h e = rw (le-ltb _ _ l, lt-ltb _ _ m) (e ∙ ap noCensus h)
+  settled-12 : (a : Answer) → allowance < length rings → a ≡ refusal 12 → c ≡ noCensus a → c ≡ settled n limit (afterCount allowance rings) rings
+  settled-12 a l h e = rw (lt-ltb _ _ l) (e ∙ ap noCensus h)
 
   settled-count : length rings ≤ allowance → c ≡ censusOf n limit rings → c ≡ settled n limit (afterCount allowance rings) rings
   settled-count l e = rw (le-ltb _ _ l) e
 
-  settled-list : (room : ℕ) → length rings ≤ allowance → length (encode rings) ≤ room → c ≡ censusOf n limit rings → c ≡ settled n limit (afterList allowance room rings) rings
-  settled-list room l m e = rw (le-ltb _ _ l, le-ltb _ _ m) e
+  module _ (room : ℕ) where
+    settled-13 : (a : Answer) → length rings ≤ allowance → room < length (encode rings) → a ≡ refusal 13 → c ≡ noCensus a → c ≡ settled n limit (afterList allowance room rings) rings
+    settled-13 a l m h e = rw (le-ltb _ _ l, lt-ltb _ _ m) (e ∙ ap noCensus h)
+
+    settled-list : length rings ≤ allowance → length (encode rings) ≤ room → c ≡ censusOf n limit rings → c ≡ settled n limit (afterList allowance room rings) rings
+    settled-list l m e = rw (le-ltb _ _ l, le-ltb _ _ m) e
+
+    -- refused after the search, listing says what counting says
+    settled-alike : (code c ≡ 0 → ⊥) → c ≡ settled n limit (afterCount allowance rings) rings → c ≡ settled n limit (afterList allowance room rings) rings
+    settled-alike z h = go (ltb allowance (length rings)) h
+      where
+        go : (many : Bool) → c ≡ settled n limit (check 12 many accepted) rings → c ≡ settled n limit (check 12 many (check 13 (ltb room (length (encode rings))) accepted)) rings
+        go true h = h
+        go false h = absurd (z (ap code h))
 
 module _ (n : ℕ) (t : List ℕ) (limit allowance : ℕ) (d d′ : List ℕ) (p : Answer) (P : Prepared n t limit allowance d d′ p) where
   -- refused before the search
   pub out-refused : (after-search : List (List ℕ) → Answer) (c : Census) → (p .code ≡ 0 → ⊥) → c ≡ noCensus p → Outcome n t limit allowance after-search d d′ c
   out-refused after-search c z e = record {
     refused = λ _. (e ∙ ap noCensus (P .answer), P .refused z);
-    searched = λ y. absurd (z (ap code (P .answer) ∙ y));
+    searched = λ y. absurd (z (ap number (P .answer) ∙ y));
   }
 
   module _ (z : p .code ≡ 0) where
     pub passed : Passed n t limit allowance d
-    passed = reached-exactly n t limit allowance d .0 (ap code (sym (P .answer)) ∙ z)
+    passed = reached-exactly n t limit allowance d .0 (ap number (sym (P .answer)) ∙ z)
 
     module _ (used : ℕ) (u : used ≡ limitOf limit) where
       rings : List (List ℕ)
@@ -80,7 +88,7 @@ module _ (n : ℕ) (t : List ℕ) (limit allowance : ℕ) (d d′ : List ℕ) (p
 
       out-searched : (after-search : List (List ℕ) → Answer) (c : Census) → c ≡ settled n limit (after-search rings) rings → Outcome n t limit allowance after-search d d′ c
       out-searched after-search c e = record {
-        refused = λ y. absurd (y (ap code (sym (P .answer)) ∙ z));
+        refused = λ y. absurd (y (ap number (sym (P .answer)) ∙ z));
         searched = λ _. record { filled = P .filled z; rings = rings; listing = lists; says = e };
       }
 
@@ -116,38 +124,69 @@ module _ (n : ℕ) (t : List ℕ) (limit allowance : ℕ) (d d′ : List ℕ) (p
           count-0 c e = out-searched (afterCount allowance) c (settled-count n limit allowance rings c few (told c e))
 
         pub count-12 : (a : Answer) (c : Census) → y .found .over ≡ true → a ≡ refusal 12 → c ≡ noCensus a → CountOutcome n t limit allowance d d′ c
-        count-12 a c o h e = out-searched (afterCount allowance) c (settled-12 n limit allowance rings c a (many o) h e .0)
+        count-12 a c o h e = out-searched (afterCount allowance) c (settled-12 n limit allowance rings c a (many o) h e)
 
-      module _ (l : List ℕ) where
-        -- refused, the list buffer stays
-        stays : (c : Census) (a : Answer) → Outcome n t limit allowance (afterList allowance (length l)) d d′ c → c ≡ noCensus a → (a .code ≡ 0 → ⊥) → ListOutcome n t limit allowance d d′ l l c
-        stays c a O e y = record { census = O; kept = λ _. refl; written = λ f. absurd (y (ap census-code (sym e) ∙ f)) }
+      -- a second search writes the rings where they have room
+      pub rewritten : (l l′ : List ℕ) (y : Tally) → Tallied n t d′ (used + 1 - ringLeast) allowance l y l′ → (xs : List (List ℕ)) → RingListing (Bonded t) (limitOf limit) xs → length xs ≤ allowance → length (encode xs) ≤ length l → l′ ≡ sets l 0 (encode xs)
+      unfolding rings
+      rewritten l l′ y T xs h few room =
+          let same : rings ≡ xs = ring-listing-unique (Bonded t) (limitOf limit) rings xs lists h in
+          holds allowance rings l (y .found) l′ (T .result) (subst (λ (x : List (List ℕ)). length x ≤ allowance) (sym same) few) (subst (λ (x : List (List ℕ)). length (encode x) ≤ length l) (sym same) room) .1
+          ∙ ap (λ (x : List (List ℕ)). sets l 0 (encode x)) same
 
-        module _ (s s′ : List ℕ) (y : Tally) (T : Tallied n t d′ (used + 1 - ringLeast) allowance s y s′) where
-          pub list-12 : (a : Answer) (c : Census) → y .found .over ≡ true → a ≡ refusal 12 → c ≡ noCensus a → ListOutcome n t limit allowance d d′ l l c
-          list-12 a c o h e = stays c a (out-searched (afterList allowance (length l)) c (settled-12 n limit allowance rings c a (many s s′ y T o) h e .1 (length l))) e (λ f. omega (arith, ap code h))
+-- listing, after counting
+module _ (n : ℕ) (t : List ℕ) (limit allowance : ℕ) (d d′ : List ℕ) (c : Census) (C : CountOutcome n t limit allowance d d′ c) where
+  pub list-refused : (l : List ℕ) → (code c ≡ 0 → ⊥) → ListOutcome n t limit allowance d d′ l l c
+  list-refused l z = record {
+    census = record {
+      refused = C .refused;
+      searched = λ y. let S = C .searched y in
+          record { filled = S .filled; rings = S .rings; listing = S .listing; says = settled-alike n limit allowance (S .rings) c (length l) z (S .says) };
+    };
+    kept = λ _. refl;
+    written = λ f. absurd (z f);
+  }
 
-          module _ (o : y .found .over ≡ false) where
-            pub list-13 : (a : Answer) (c : Census) → length l < y .found .at → a ≡ refusal 13 → c ≡ noCensus a → ListOutcome n t limit allowance d d′ l l c
-            list-13 a c m h e =
-                stays c a (out-searched (afterList allowance (length l)) c (settled-13 n limit allowance rings c a (length l) (few s s′ y T o) (omega (arith, words s s′ y T o)) h e)) e (λ f. omega (arith, ap code h))
+  module _ (z : code c ≡ 0) where
+    counted : Searched n t limit (afterCount allowance) d′ c
+    counted = reached C z
 
-            module _ (room : y .found .at ≤ length l) (l′ : List ℕ) (y₂ : Tally) (T₂ : Tallied n t d′ (used + 1 - ringLeast) allowance l y₂ l′) where
-              second : (y₂ .found .over ≡ false) × (l′ ≡ sets l 0 (encode rings))
-              unfolding rings
-              second = holds allowance rings l (y₂ .found) l′ (T₂ .result) (few s s′ y T o) (omega (arith, words s s′ y T o))
+    its : (c ≡ censusOf n limit (counted .rings)) × (length (counted .rings) ≤ allowance)
+    its = told-count n limit allowance (counted .rings) c (counted .says) z
 
-              pub sums-2 : Fits (y₂ .found) × ((y₂ .found .rings ≤ y₂ .found .at) × (y₂ .found .rings ≤ allowanceMost))
-              sums-2 = sums l l′ y₂ T₂ (second .0)
+    prepared : Prepared n t limit allowance d d′ (beforeSearch n t limit allowance d)
+    prepared = record { answer = refl; refused = λ y. absurd (y (unrefused C z)); filled = λ _. counted .filled }
 
-              pub list-0 : (c : Census) → c ≡ censusWith n used (y₂ .counts) (y₂ .found .rings) (y₂ .found .at) → ListOutcome n t limit allowance d d′ l l′ c
-              list-0 c e =
-                  let it : c ≡ censusOf n limit rings = told l l′ y₂ T₂ (second .0) c e in
-                  record {
-                    census = out-searched (afterList allowance (length l)) c (settled-list n limit allowance rings c (length l) (few s s′ y T o) (omega (arith, words s s′ y T o)) it);
-                    kept = λ f. absurd (f (ap census-code it));
-                    written = λ _ xs h. second .1 ∙ ap (λ ys. sets l 0 (encode ys)) (ring-listing-unique (Bonded t) (limitOf limit) rings xs lists h);
-                  }
+    used : c .limit ≡ limitOf limit
+    used = ap (λ (x : Census). x .limit) (its .0)
 
-  pub list-refused : (l : List ℕ) (c : Census) → (p .code ≡ 0 → ⊥) → c ≡ noCensus p → ListOutcome n t limit allowance d d′ l l c
-  list-refused l c z e = record { census = out-refused (afterList allowance (length l)) c z e; kept = λ _. refl; written = λ f. absurd (z (ap census-code (sym e) ∙ f)) }
+    pub again-net : Net n t d′ (c .limit)
+    again-net = net n t limit allowance d d′ (beforeSearch n t limit allowance d) prepared (unrefused C z) (c .limit) used
+
+    pub again-small : allowance ≤ allowanceMost
+    again-small = passed n t limit allowance d d′ (beforeSearch n t limit allowance d) prepared (unrefused C z) .bounded
+
+    out-listed : (l : List ℕ) (e : Census) → e ≡ settled n limit (afterList allowance (length l) (counted .rings)) (counted .rings) → Outcome n t limit allowance (afterList allowance (length l)) d d′ e
+    out-listed l e h = record {
+      refused = λ y. absurd (y (unrefused C z));
+      searched = λ _. record { filled = counted .filled; rings = counted .rings; listing = counted .listing; says = h };
+    }
+
+    pub list-13 : (l : List ℕ) (a : Answer) (e : Census) → length l < c .words → a ≡ refusal 13 → e ≡ noCensus a → ListOutcome n t limit allowance d d′ l l e
+    list-13 l a e m h k = record {
+      census = out-listed l e (settled-13 n limit allowance (counted .rings) e (length l) a (its .1) (omega (arith, m, ap (λ (x : Census). x .words) (its .0))) h k);
+      kept = λ _. refl;
+      written = λ f. absurd (omega (arith, f, ap code k, ap number h));
+    }
+
+    pub list-0 : (l l′ : List ℕ) (y : Tally) → c .words ≤ length l → Tallied n t d′ (c .limit + 1 - ringLeast) allowance l y l′ → ListOutcome n t limit allowance d d′ l l′ c
+    list-0 l l′ y m T =
+        let room : length (encode (counted .rings)) ≤ length l = omega (arith, m, ap (λ (x : Census). x .words) (its .0)) in
+        let all = rewritten n t limit allowance d d′ (beforeSearch n t limit allowance d) prepared (unrefused C z) (c .limit) used l l′ y T in
+        record {
+          census = out-listed l c (settled-list n limit allowance (counted .rings) c (length l) (its .1) room (its .0));
+          kept = λ f. absurd (f z);
+          written = λ _ xs h.
+              let same : counted .rings ≡ xs = ring-listing-unique (Bonded t) (limitOf limit) (counted .rings) xs (counted .listing) h in
+              all (counted .rings) (counted .listing) (its .1) room ∙ ap (λ (x : List (List ℕ)). sets l 0 (encode x)) same;
+        }

@@ -6,9 +6,13 @@ use Prim.Native.Nat.{ℕ, _+_, _-_, _*_, _<_, _≤_}
 use native.Mathlib.Nat.{mul-le-mul-right, suc-mul, lt-irrefl, eq-or-lt-of-le, le-refl}
 use native.Mathlib.Numerals.{add-one}
 use native.Mathlib.Omega.{arith}
+use lib.Dec.{eqb}
 use lib.ListN.{length, take, getD, set, length-set}
 use lib.Seq.{length-take-le, take-suc-set, getD-set-same, getD-set-other, getD-take, take-take, take-set-le}
+use Rattle.graph.specs.Graph.{around}
+use Rattle.distance.specs.Distances.{distance}
 use Rattle.ring.specs.Maxima.{ringMost, ringLeast}
+use Rattle.search.specs.Search.{pairFits}
 use Rattle.search.specs.State.{PathIn, Given, Grows}
 
 -- a place of a table of n rows of m
@@ -31,6 +35,11 @@ below-pushed l i a n h ha hl j hj =
 
 pub path-long : {n len : ℕ} {w : List ℕ} → PathIn n w len → length (take len w) ≡ len
 path-long {n} {len} {w} p = length-take-le len w (omega (arith, p .room, p .short))
+
+-- a pair fits as its distance and the way round say
+pub pair-told : (n : ℕ) (dist : List ℕ) (k : ℕ) (path : List ℕ) (at y i : ℕ) {x d w : ℕ} → x ≡ getD path i 0 → d ≡ distance dist n x y → w ≡ around k (at - i) → eqb d w ≡ pairFits n dist k path at y i
+unfolding pairFits
+pair-told n dist k path at y i e f g = rw (f, g, e)
 
 -- words that begin as others do hold the same path
 pub path-kept : {n len : ℕ} {w w′ : List ℕ} → take len w′ ≡ take len w → length w′ ≡ length w → PathIn n w len → PathIn n w′ len

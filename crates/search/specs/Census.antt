@@ -5,7 +5,6 @@
 --   encode rings                rings as they are listed, one after another: each its length, then its atoms
 --   afterCount allowance rings            12: more rings than the allowance
 --   afterList allowance room rings        12, then 13: more words than there is room for
---   ofLength k rings            how many of the rings have k atoms
 --   countsOf rings              a count for each length from 0 to the greatest
 --   censusWith n used counts total words    an accepted call's numbers, with their averages
 --   censusOf n limit rings      what an accepted call says: every number is a function of the list of rings
@@ -23,7 +22,8 @@ use Prim.Native.Nat.{ℕ, _+_, _-_, _*_}
 use lib.Dec.{eqb, leb, ltb}
 use lib.ListN.{length, replicate}
 use lib.Seq.{sets}
-use Rattle.graph.specs.Lists.{keep, count}
+use Rattle.graph.specs.Lists.{count}
+use Rattle.graph.specs.Counts.{ofLength}
 use Rattle.graph.specs.Listing.{RingListing}
 use Rattle.network.specs.declared.Answer.{Answer}
 use Rattle.network.specs.Maxima.{places}
@@ -61,9 +61,6 @@ afterCount allowance rings = check 12 (ltb allowance (length rings)) accepted
 
 abbrev pub afterList : ℕ → ℕ → List (List ℕ) → Answer
 afterList allowance room rings = check 12 (ltb allowance (length rings)) (check 13 (ltb room (length (encode rings))) accepted)
-
-unfoldable pub ofLength : ℕ → List (List ℕ) → ℕ
-ofLength k rings = length (keep (λ r. eqb (length r) k) rings)
 
 unfoldable pub countsOf : List (List ℕ) → List ℕ
 countsOf rings = map (λ k. ofLength k rings) (count (ringMost + 1) 0)

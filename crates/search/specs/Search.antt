@@ -17,8 +17,8 @@
 --   ringsOf .. k            every ring of k atoms
 --   ringsUpTo .. m          every ring of the m least lengths, shorter ones first
 --   countsUpTo .. m         how many there are of each length: a count for each length from 0 on, of which those of the m least are filled in
-use Prim.Native.Nat.{ℕ, zero, suc, _+_, _-_, _*_}
-use mathlib.Core.Bool.{Bool, true, false, _&&_, cond}
+use Prim.Native.Nat.{ℕ, zero, suc, _+_, _-_}
+use mathlib.Core.Bool.{Bool, true, _&&_, cond}
 use mathlib.Core.List.{List, [], _∷_, _++_}
 use lib.ListN.{length, getD, set, replicate}
 use lib.Dec.{eqb, ltb}

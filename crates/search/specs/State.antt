@@ -13,8 +13,8 @@
 --   Grew a xs ..         and of the words that hold the path the first `len` are as they were
 --   Tallied ..           what the whole search does: every ring of the m least lengths is noted, and, where there are no more than the allowance, the counts are right
 use mathlib.Core.Path.{_≡_}
-use Prim.Native.Nat.{ℕ, zero, suc, _+_, _-_, _*_, _<_, _≤_}
-use mathlib.Core.Bool.{Bool, true, false, cond}
+use Prim.Native.Nat.{ℕ, _+_, _-_, _*_, _<_, _≤_}
+use mathlib.Core.Bool.{true, false, cond}
 use mathlib.Core.List.{List, [], _∷_}
 use lib.ListN.{length, getD, take}
 use lib.Seq.{sets}

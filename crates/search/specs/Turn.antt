@@ -11,7 +11,7 @@
 --   Looks test n dist k path r     an answer to a test: 0 for no; any other is yes, and where the next look ahead may start
 --   NextAt n dist a w from r       r is the first atom from `from` on whose distance from a is w, or n
 use mathlib.Core.Path.{_≡_}
-use Prim.Native.Nat.{ℕ, zero, suc, _+_, _-_, _*_, _/_, _<_, _≤_}
+use Prim.Native.Nat.{ℕ, zero, suc, _+_, _-_, _/_, _<_, _≤_}
 use mathlib.Core.Bool.{Bool, true, false, _&&_, _||_, cond}
 use mathlib.Core.List.{List}
 use lib.ListN.{length, getD}

@@ -5,7 +5,7 @@ use crate::grow::Tally;
 use network::Answer;
 use ring::Ring;
 ghost use mathlib.Core.Path.{_≡_};
-ghost use Prim.Native.Nat.{ℕ, _≤_};
+ghost use Prim.Native.Nat.{_≤_};
 ghost use Rattle.network.specs.Network.{Counted};
 ghost use Rattle.ring.specs.Maxima.{allowanceMost};
 ghost use Rattle.search.specs.Census.{censusWith, noCensus};

@@ -66,21 +66,14 @@ pub fn list(
 ) -> Census
     ensures { λ r. ⌜ ListOutcome n (now (table .entry)) limit allowance (now (dist .entry)) (now (dist .exit)) (now (list .entry)) (now (list .exit)) r ⌝ }
 {
-    let prepared = checks::prepare(n, table, limit, allowance, dist);
-    if prepared.code != 0 {
-        return answers::refused(prepared);
+    let counted = count(n, table, limit, allowance, dist);
+    if counted.answer.code != 0 {
+        return counted;
     }
-    let used = checks::limit_used(limit);
-    let mut scratch = [0u16; 1];
-    let first = grow::each_length(n, table, dist, used, allowance as u32, &mut scratch);
-    if first.found.over {
-        let answer = Answer::refused(12);
-        return answers::refused(answer);
-    }
-    if list.len() < first.found.at {
+    if list.len() < counted.words {
         let answer = Answer::refused(13);
         return answers::refused(answer);
     }
-    let second = grow::each_length(n, table, dist, used, allowance as u32, list);
-    answers::accepted(n, used, second)
+    grow::each_length(n, table, dist, counted.limit, allowance as u32, list);
+    counted
 }

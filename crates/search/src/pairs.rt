@@ -1,7 +1,7 @@
 // Pairs of atoms on a path: whether they are as far apart in the network as on the ring.
 use ring::Ring;
 ghost use mathlib.Core.Path.{_≡_};
-ghost use Prim.Native.Nat.{ℕ, _+_, _-_, _*_, _<_, _≤_};
+ghost use Prim.Native.Nat.{_+_, _-_, _*_, _<_, _≤_};
 ghost use lib.ListN.{length, getD, take};
 ghost use Rattle.graph.specs.Graph.{around};
 ghost use Rattle.distance.specs.Distances.{distance};

@@ -2,8 +2,8 @@
 use crate::pairs;
 use ring::Ring;
 ghost use mathlib.Core.Path.{_≡_};
-ghost use mathlib.Core.List.{List, [], _∷_, _++_};
-ghost use Prim.Native.Nat.{ℕ, _+_, _-_, _*_, _/_, _<_, _≤_};
+ghost use mathlib.Core.List.{[], _∷_, _++_};
+ghost use Prim.Native.Nat.{_+_, _-_, _*_, _/_, _<_, _≤_};
 ghost use lib.ListN.{length, take};
 ghost use Rattle.network.specs.Maxima.{atomsMost};
 ghost use Rattle.ring.specs.Maxima.{ringLeast};
@@ -102,18 +102,26 @@ fn look_ahead(
     0
 }
 
-// The first atom from `from` on whose distance from a is w, or n.
+// The first atom from `from` on whose distance from a is w, or n. Two at a time: the search spends much of its time here.
 fn next_at(n: usize, dist: &[u8], a: usize, w: usize, from: usize) -> usize
     requires { ⌜ length (now dist) ≡ n * n ⌝ }
-    requires { ⌜ (a < n) × (from ≤ n) ⌝ }
+    requires { ⌜ (a < n) × ((from ≤ n) × (n ≤ atomsMost)) ⌝ }
     ensures { λ r. ⌜ NextAt n (now (dist .entry)) a w from r ⌝ }
 {
     let mut y = from;
-    while y < n {
+    while y + 1 < n {
         if pairs::far(n, dist, a, y) == w {
             return y;
         }
-        y += 1;
+        if pairs::far(n, dist, a, y + 1) == w {
+            return y + 1;
+        }
+        y += 2;
+    }
+    if y < n {
+        if pairs::far(n, dist, a, y) == w {
+            return y;
+        }
     }
     n
 }

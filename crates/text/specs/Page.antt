@@ -4,7 +4,7 @@
 --   start               the pen at the first byte
 --   put b s             the byte b is written at the pen, where there is room and nothing was left out before
 --   putAll bs s         the bytes bs, one after another
-use mathlib.Core.Bool.{Bool, true, false, cond}
+use mathlib.Core.Bool.{true, false, cond}
 use mathlib.Core.List.{List, [], _∷_}
 use Prim.Native.Nat.{ℕ, _+_}
 use lib.Dec.{ltb}

@@ -3,7 +3,7 @@ use crate::Pen;
 ghost use mathlib.Core.Path.{_≡_};
 ghost use mathlib.Core.List.{_++_};
 ghost use Rattle.text.specs.Page.{page, put, putAll};
-ghost use Rattle.text.specs.Lines.{digits, digitsMost, number};
+ghost use Rattle.text.specs.Lines.{digits, number};
 
 pub fn byte(out: &mut [u8], pen: Pen, letter: u8) -> Pen
     ensures { λ r. ⌜ page r (now (out .exit)) ≡ put letter (page pen (now (out .entry))) ⌝ }

@@ -2,99 +2,59 @@ use Prim.Native.Nat.{_≤_}
 use native.Mathlib.Omega.{arith}
 use borrow.Author.Needs.{needs}
 use Rattle.ring.specs.Maxima.{allowanceMost}
-use Rattle.search.proofs.Outcomes.{list-refused, passed, net, sums-2, list-0, list-12, list-13}
+use Rattle.search.proofs.Outcomes.{list-refused, again-net, again-small, list-13, list-0}
 use Rattle.search.proofs.list.Statement.{statement}
 use Rattle.search.proofs.list.Tie as tie
 
-prepare-requires : tie.Need-prepare-requires
-prepare-requires c κs = search needs
-
-refused-requires : tie.Need-refused-requires
-refused-requires c κs = search needs
+count-requires : tie.Need-count-requires
+count-requires c κs = search needs
 
 same-length : tie.Need-same-length
 same-length c = search needs
 
 returns : tie.Need-returns
-returns c = list-refused _ _ _ _ _ _ _ (c .before .before .before .before .before .prepare .ensures) _ _ (c .before .if1 .taken) (c .refused .ensures)
+returns c = list-refused _ _ _ _ _ _ _ (c .before .before .before .before .count .ensures) _ (c .if1 .taken)
 
-limit-used-requires : tie.Need-limit-used-requires
-limit-used-requires c κs = search needs
-
-cast-each-length : tie.Need-cast-each-length
-cast-each-length c = let small : c .before .before .before .before .before .before .before .before .before .before .before .args .allowance ≤ allowanceMost = passed _ _ _ _ _ _ _ (c .before .before .before .before .before .before .prepare .ensures) (c .before .before .if1 .left) .bounded in omega arith
-
-slice-aggregate-each-length : tie.Need-slice-aggregate-each-length
-slice-aggregate-each-length c = search needs
-
-each-length-requires : tie.Need-each-length-requires
-each-length-requires c κs = net _ _ _ _ _ _ _ (c .before .before .before .before .before .before .before .prepare .ensures) (c .before .before .before .if1 .left) _ (c .before .before .limit-used .ensures)
+refused-requires : tie.Need-refused-requires
+refused-requires c κs = search needs
 
 refused-requires-2 : tie.Need-refused-requires-2
 refused-requires-2 c κs = search needs
-
-refused-requires-3 : tie.Need-refused-requires-3
-refused-requires-3 c κs = search needs
 
 same-length-2 : tie.Need-same-length-2
 same-length-2 c = search needs
 
 returns-2 : tie.Need-returns-2
-returns-2 c = list-12 _ _ _ _ _ _ _ (c .before .before .before .before .before .before .before .before .before .before .before .before .prepare .ensures) (c .before .before .before .before .before .before .before .before .if1 .left) _ (c .before .before .before .before .before .before .before .limit-used .ensures) _ _ _ _ (c .before .before .before .before .each-length .ensures) _ _ (c .before .before .if2 .taken) (c .before .refused2 .ensures) (c .refused3 .ensures)
+returns-2 c = list-13 _ _ _ _ _ _ _ (c .before .before .before .before .before .before .before .before .count .ensures) (c .before .before .before .before .if1 .left) _ _ _ (c .before .before .if2 .taken) (c .before .refused .ensures) (c .refused2 .ensures)
 
-refused-requires-4 : tie.Need-refused-requires-4
-refused-requires-4 c κs = search needs
+cast-each-length : tie.Need-cast-each-length
+cast-each-length c = let small : c .before .before .before .before .before .before .before .before .before .before .before .before .args .allowance ≤ allowanceMost = again-small _ _ _ _ _ _ _ (c .before .before .before .before .before .before .before .count .ensures) (c .before .before .before .if1 .left) in omega arith
 
-refused-requires-5 : tie.Need-refused-requires-5
-refused-requires-5 c κs = search needs
+each-length-requires : tie.Need-each-length-requires
+each-length-requires c κs = again-net _ _ _ _ _ _ _ (c .before .before .before .before .before .before .before .before .count .ensures) (c .before .before .before .before .if1 .left)
 
 same-length-3 : tie.Need-same-length-3
 same-length-3 c = search needs
 
-returns-3 : tie.Need-returns-3
-returns-3 c = list-13 _ _ _ _ _ _ _ (c .before .before .before .before .before .before .before .before .before .before .before .before .before .before .prepare .ensures) (c .before .before .before .before .before .before .before .before .before .before .if1 .left) _ (c .before .before .before .before .before .before .before .before .before .limit-used .ensures) _ _ _ _ (c .before .before .before .before .before .before .each-length .ensures) (c .before .before .before .before .if2 .left) _ _ (c .before .before .if3 .taken) (c .before .refused4 .ensures) (c .refused5 .ensures)
-
-cast-each-length-2 : tie.Need-cast-each-length-2
-cast-each-length-2 c = let small : c .before .before .before .before .before .before .before .before .before .before .before .before .before .before .before .before .before .before .args .allowance ≤ allowanceMost = passed _ _ _ _ _ _ _ (c .before .before .before .before .before .before .before .before .before .before .before .before .before .prepare .ensures) (c .before .before .before .before .before .before .before .before .before .if1 .left) .bounded in omega arith
-
-each-length-requires-2 : tie.Need-each-length-requires-2
-each-length-requires-2 c κs = net _ _ _ _ _ _ _ (c .before .before .before .before .before .before .before .before .before .before .before .before .before .before .prepare .ensures) (c .before .before .before .before .before .before .before .before .before .before .if1 .left) _ (c .before .before .before .before .before .before .before .before .before .limit-used .ensures)
-
-accepted-requires : tie.Need-accepted-requires
-accepted-requires c κs = (passed _ _ _ _ _ _ _ (c .before .before .before .before .before .before .before .before .before .before .before .before .before .before .before .before .before .prepare .ensures) (c .before .before .before .before .before .before .before .before .before .before .before .before .before .if1 .left) .network .counted, sums-2 _ _ _ _ _ _ _ (c .before .before .before .before .before .before .before .before .before .before .before .before .before .before .before .before .before .prepare .ensures) (c .before .before .before .before .before .before .before .before .before .before .before .before .before .if1 .left) _ (c .before .before .before .before .before .before .before .before .before .before .before .before .limit-used .ensures) _ _ _ _ (c .before .before .before .before .before .before .before .before .before .each-length .ensures) (c .before .before .before .before .before .before .before .if2 .left) (c .before .before .before .before .before .if3 .left) _ _ (c .before .before .each-length2 .ensures))
-
 same-length-4 : tie.Need-same-length-4
-same-length-4 c = c .before .before .before .before .before .before .before .before .before .before .before .before .before .before .before .before .before .before .prepare .kept .1 .1 .1 .1 .0
+same-length-4 c = search needs
 
-same-length-5 : tie.Need-same-length-5
-same-length-5 c = search needs
-
-returns-4 : tie.Need-returns-4
-returns-4 c = list-0 _ _ _ _ _ _ _ (c .before .before .before .before .before .before .before .before .before .before .before .before .before .before .before .before .before .before .prepare .ensures) (c .before .before .before .before .before .before .before .before .before .before .before .before .before .before .if1 .left) _ (c .before .before .before .before .before .before .before .before .before .before .before .before .before .limit-used .ensures) _ _ _ _ (c .before .before .before .before .before .before .before .before .before .before .each-length .ensures) (c .before .before .before .before .before .before .before .before .if2 .left) (c .before .before .before .before .before .before .if3 .left) _ _ (c .before .before .before .each-length2 .ensures) _ (c .accepted .ensures)
+returns-3 : tie.Need-returns-3
+returns-3 c = list-0 _ _ _ _ _ _ _ (c .before .before .before .before .before .before .before .before .before .before .before .count .ensures) (c .before .before .before .before .before .before .before .if1 .left) _ _ _ (c .before .before .before .before .before .if2 .left) (c .before .before .each-length .ensures)
 
 pub list-spec : {M : Type 1} → statement M
 list-spec =
     tie.close
     (tie.spec
-    prepare-requires
-    refused-requires
+    count-requires
     same-length
     returns
-    limit-used-requires
-    cast-each-length
-    slice-aggregate-each-length
-    each-length-requires
+    refused-requires
     refused-requires-2
-    refused-requires-3
     same-length-2
     returns-2
-    refused-requires-4
-    refused-requires-5
+    cast-each-length
+    each-length-requires
     same-length-3
-    returns-3
-    cast-each-length-2
-    each-length-requires-2
-    accepted-requires
     same-length-4
-    same-length-5
-    returns-4)
+    returns-3)

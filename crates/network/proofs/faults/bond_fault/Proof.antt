@@ -1,4 +1,3 @@
-use Prim.Native.Nat.{_*_, _+_, _≤_}
 use Rattle.network.specs.Verdict.{WordsBelow}
 use native.Mathlib.Omega.{arith}
 use Rattle.network.proofs.PlaceFaults.{bond-free, bond-answered, bond-unanswered}

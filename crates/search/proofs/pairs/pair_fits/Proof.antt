@@ -1,23 +1,23 @@
-use borrow.Author.Needs.{needs}
-use Rattle.search.specs.Search.{pairFits}
+use native.Mathlib.Omega.{arith}
+use Rattle.search.proofs.Paths.{pair-told}
 use Rattle.search.proofs.pairs.pair_fits.Statement.{statement}
 use Rattle.search.proofs.pairs.pair_fits.Tie as tie
 
 atom-at-requires : tie.Need-atom-at-requires
-atom-at-requires c κs = search needs
+atom-at-requires c κs = (c .before .pre .0 .path, c .before .pre .1 .0)
 
 far-requires : tie.Need-far-requires
-far-requires c κs = search needs
+far-requires c κs = let s = c .before .before in
+    (s .pre .0 .square, (c .atom-at .ensures .1, s .pre .1 .1 .1 .1))
 
 sub-way : tie.Need-sub-way
-sub-way c = search needs
+sub-way c = c .before .before .before .pre .1 .1 .0
 
 way-requires : tie.Need-way-requires
-way-requires c κs = search needs
+way-requires c κs = omega (arith, c .before .before .before .pre .1 .1 .1 .0)
 
 returns : tie.Need-returns
-unfolding pairFits
-returns c = cc
+returns c = pair-told _ _ _ _ _ _ _ (c .before .before .atom-at .ensures .0) (c .before .far .ensures) (c .way .ensures)
 
 pub pair-fits-spec : {M : Type 1} → statement M
 pair-fits-spec = tie.close (tie.spec atom-at-requires far-requires sub-way way-requires returns)

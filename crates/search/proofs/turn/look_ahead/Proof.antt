@@ -32,7 +32,8 @@ way-requires : tie.Need-way-requires Inv-loop μ-loop
 way-requires c κs = omega (arith, c .before .before .pre .0 .some)
 
 next-at-requires : tie.Need-next-at-requires Inv-loop μ-loop
-next-at-requires c κs = (c .before .before .before .pre .0 .square, (c .before .before .before .pre .1 .0, c .before .before .before .pre .1 .1 .1 .within))
+next-at-requires c κs = let s = c .before .before .before in
+    (s .pre .0 .square, (s .pre .1 .0, (s .pre .1 .1 .1 .within, s .pre .1 .1 .0)))
 
 loop-holds : tie.Need-loop-holds Inv-loop μ-loop
 loop-holds c = let s = c .before .before .before .before in
@@ -53,7 +54,7 @@ add-next-at c = omega (arith, c .before .before .loop-test .taken, c .before .be
 
 next-at-requires-2 : tie.Need-next-at-requires-2 Inv-loop μ-loop
 next-at-requires-2 c κs = let s = c .before .before .before .before .before .before .before .before in
-    (s .pre .0 .square, (s .pre .1 .0, omega (arith, c .before .before .loop-test .taken)))
+    (s .pre .0 .square, (s .pre .1 .0, (omega (arith, c .before .before .loop-test .taken), s .pre .1 .1 .0)))
 
 loop-less : tie.Need-loop-less Inv-loop μ-loop
 loop-less c = omega (arith, c .before .before .before .loop-test .taken, c .next-at2 .ensures .after)

@@ -1,28 +1,25 @@
 -- P1 to P11 hold: the checker computes the test, and the test is right.
-use mathlib.Core.Path.{_≡_, refl, sym, _∙_, ap, ap₂, subst}
-use mathlib.Core.Logic.{_≢_}
-use mathlib.Core.Bool.{Bool, true, false, _&&_, _||_, not}
+use mathlib.Core.Path.{_≡_, refl, ap₂, subst}
+use mathlib.Core.Bool.{_||_, not}
 use mathlib.Core.List.{List, [], _∷_}
-use Prim.Native.Nat.{ℕ, zero, suc, _+_, _-_, _≤_, _<_, min}
+use Prim.Native.Nat.{ℕ, zero, suc, _-_, _≤_, _<_}
 use native.Mathlib.Omega.{arith}
-use lib.Dec.{T, eqb, leb, eqb→eq, eqb-refl, leb→le, T-not, not-T}
+use lib.Dec.{T, eqb, leb, eqb→eq, eqb-refl, leb→le, T-not}
 use lib.ListN.{length, getD}
-use Rattle.graph.specs.Lists.{_∈_, count, every}
-use Rattle.graph.specs.Graph.{Distance, around, Ring, ShortestPathRing}
+use Rattle.graph.specs.Lists.{count, every}
+use Rattle.graph.specs.Graph.{around, Ring, ShortestPathRing}
 use Rattle.graph.specs.Listing.{RingListing}
 use Rattle.graph.specs.Levels.{elem}
 use Rattle.graph.proofs.Lists.{and-T, T-or-r, every-of, every-has, count-of, count-has}
 use Rattle.graph.proofs.Levels.{elem-of}
-use Rattle.graph.proofs.Finite.{BondedBy}
 use Rattle.graph.proofs.Listed.{look-right, computed}
 use Rattle.graph.proofs.Renamings.{same-listing, same-distance}
-use Rattle.network.specs.declared.Answer.{Answer}
 use Rattle.network.specs.Network.{Bonded, IsNetwork, neighbours}
 use Rattle.network.specs.Verdict.{placeFault, bondFault, firstFault, orElse, stands, verdict, faults}
-use Rattle.network.specs.Examples.{Example, tableOf, Holds, AllHold, examples}
-use Rattle.network.specs.Computed.{distancesOf, listOver, closed, compared, pairFits, fits, isShortCut, sameRing, sameRings, judged, passes}
+use Rattle.examples.specs.Examples.{Example, tableOf, Holds, AllHold, examples}
+use Rattle.examples.specs.Computed.{distancesOf, listOver, closed, compared, pairFits, fits, isShortCut, sameRing, sameRings, judged, passes}
 use Rattle.network.proofs.Networks.{network-of, accepted-of}
 use Rattle.network.proofs.Bonds.{neighbour-bonded, bonded-by, bonded-to, finite}
 
 same-ring-of : (xs ys : List ℕ) → T (sameRing xs ys) → xs ≡ ys
 same-ring-of [] [] h = refl

@@ -14,9 +14,9 @@ use Rattle.graph.specs.Lists.{count, every}
 use Rattle.graph.specs.Graph.{around}
 use Rattle.graph.specs.Levels.{elem}
 use Rattle.graph.specs.Search.{ringsWithin, inWriting, distanceTable, look}
 use Rattle.network.specs.Network.{neighbours}
 use Rattle.network.specs.Verdict.{verdict}
-use Rattle.network.specs.Examples.{Example, tableOf}
+use Rattle.examples.specs.Examples.{Example, tableOf}
 
 -- distances of the network as far as the limit, and one more beyond it
 abbrev pub distancesOf : ℕ → List ℕ → ℕ → ℕ → ℕ → ℕ

@@ -1,0 +1,2 @@
+-- The table of examples holds.
+pub mod Examples
