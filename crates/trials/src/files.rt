@@ -4,103 +4,92 @@ use crate::say;
 use bnw::Reading;
 use network::Network;
 
-pub fn run() {
+pub fn run(figure: &[u16]) {
     heads();
-    counts();
-    lengths();
+    atoms();
     bonds();
+    lengths();
+    orders();
     ninth();
-    figure();
+    there(figure);
     greatest();
 }
 
-// 19 to 21: short files, marks and versions.
+// 19 to 21: a short file, marks and versions.
 fn heads() {
-    read(b"8 bytes", b"BNW\x01\x00\x01\x00\x00", 8);
-    read(b"9 bytes", b"BNW\x01\x00\x01\x00\x00\x00", 8);
-    read(b"mark BNX", b"BNX\x01\x00\x01\x00\x00\x00", 8);
-    read(b"version 0", b"BNW\x00\x00\x01\x00\x00\x00", 8);
-    read(b"version 2", b"BNW\x02\x00\x01\x00\x00\x00", 8);
-    read(b"version 257", b"BNW\x01\x01\x01\x00\x00\x00", 8);
+    read(b"BNW\x01\x00\x01\x00\x00", 8);
+    head(b'W', 1, 1, 0, 8);
+    head(b'X', 1, 1, 0, 8);
+    head(b'W', 0, 1, 0, 8);
+    head(b'W', 2, 1, 0, 8);
+    head(b'W', 257, 1, 0, 8);
 }
 
-// 22 and 23: the counts, with their signs.
-fn counts() {
-    read(b"0 atoms", b"BNW\x01\x00\x00\x00\x00\x00", 2000);
-    read(b"the most atoms", b"BNW\x01\x00\xfa\x00\x00\x00", 2000);
-    read(b"one atom more", b"BNW\x01\x00\xfb\x00\x00\x00", 2000);
-    read(b"atoms FF FF", b"BNW\x01\x00\xff\xff\x00\x00", 2000);
-    read(b"atoms 00 80", b"BNW\x01\x00\x00\x80\x00\x00", 2000);
-    read(b"bonds FF FF", b"BNW\x01\x00\x02\x00\xff\xff", 2000);
-    read(b"bonds 00 80", b"BNW\x01\x00\x02\x00\x00\x80", 2000);
-    read(b"1000 bonds missing", b"BNW\x01\x00\x02\x00\xe8\x03", 2000);
-    read(b"1001 bonds", b"BNW\x01\x00\x02\x00\xe9\x03", 2000);
+// 22: the number of atoms, with its sign.
+fn atoms() {
+    head(b'W', 1, 0, 0, 2000);
+    head(b'W', 1, Network::ATOMS, 0, 2000);
+    head(b'W', 1, Network::ATOMS + 1, 0, 2000);
+    head(b'W', 1, 0xffff, 0, 2000);
+    head(b'W', 1, 0x8000, 0, 2000);
+}
+
+// 23: the number of bonds, with its sign. The most bonds are a right number, and missing.
+fn bonds() {
+    head(b'W', 1, 2, 0xffff, 2000);
+    head(b'W', 1, 2, 0x8000, 2000);
+    head(b'W', 1, 2, bnw::BONDS, 2000);
+    head(b'W', 1, 2, bnw::BONDS + 1, 2000);
+}
+
+// A file that ends after its counts, by the mark's last letter, its version and its counts.
+fn head(letter: u8, version: usize, atoms: usize, bonds: usize, room: usize) {
+    let file = [
+        b'B',
+        b'N',
+        letter,
+        low(version),
+        high(version),
+        low(atoms),
+        high(atoms),
+        low(bonds),
+        high(bonds),
+    ];
+    read(&file, room);
+}
+
+fn low(v: usize) -> u8 {
+    (v % 256) as u8
+}
+
+fn high(v: usize) -> u8 {
+    (v / 256 % 256) as u8
 }
 
 // 24 and 25: the lengths of the file and of the table.
 fn lengths() {
-    read(
-        b"a bond of 3 bytes",
-        b"BNW\x01\x00\x02\x00\x01\x00\x00\x00\x01",
-        16,
-    );
-    read(
-        b"a bond of 4 bytes",
-        b"BNW\x01\x00\x02\x00\x01\x00\x00\x00\x01\x00",
-        16,
-    );
-    read(
-        b"a bond of 5 bytes",
-        b"BNW\x01\x00\x02\x00\x01\x00\x00\x00\x01\x00\x00",
-        16,
-    );
-    read(
-        b"table of 15 words",
-        b"BNW\x01\x00\x02\x00\x01\x00\x00\x00\x01\x00",
-        15,
-    );
-    read(
-        b"table of 17 words",
-        b"BNW\x01\x00\x02\x00\x01\x00\x00\x00\x01\x00",
-        17,
-    );
+    read(b"BNW\x01\x00\x02\x00\x01\x00\x00\x00\x01", 16);
+    read(b"BNW\x01\x00\x02\x00\x01\x00\x00\x00\x01\x00", 16);
+    read(b"BNW\x01\x00\x02\x00\x01\x00\x00\x00\x01\x00\x00", 16);
+    read(b"BNW\x01\x00\x02\x00\x01\x00\x00\x00\x01\x00", 15);
+    read(b"BNW\x01\x00\x02\x00\x01\x00\x00\x00\x01\x00", 17);
 }
 
 // 26: the second of two bonds.
-fn bonds() {
+fn orders() {
+    two(0, 1, 0, 2);
+    two(0, 1, 0, 3);
+    two(0, 1, 1, 1);
+    two(0, 1, 2, 1);
+    two(0, 1, 0, 1);
+    two(0, 2, 0, 1);
+    two(1, 2, 0, 2);
+}
+
+// Three atoms with the bonds a-b and c-d.
+fn two(a: u8, b: u8, c: u8, d: u8) {
     read(
-        b"bonds 0-1 0-2",
-        b"BNW\x01\x00\x03\x00\x02\x00\x00\x00\x01\x00\x00\x00\x02\x00",
-        24,
-    );
-    read(
-        b"bonds 0-1 0-3",
-        b"BNW\x01\x00\x03\x00\x02\x00\x00\x00\x01\x00\x00\x00\x03\x00",
-        24,
-    );
-    read(
-        b"bonds 0-1 1-1",
-        b"BNW\x01\x00\x03\x00\x02\x00\x00\x00\x01\x00\x01\x00\x01\x00",
-        24,
-    );
-    read(
-        b"bonds 0-1 2-1",
-        b"BNW\x01\x00\x03\x00\x02\x00\x00\x00\x01\x00\x02\x00\x01\x00",
-        24,
-    );
-    read(
-        b"bonds 0-1 0-1",
-        b"BNW\x01\x00\x03\x00\x02\x00\x00\x00\x01\x00\x00\x00\x01\x00",
-        24,
-    );
-    read(
-        b"bonds 0-2 0-1",
-        b"BNW\x01\x00\x03\x00\x02\x00\x00\x00\x02\x00\x00\x00\x01\x00",
-        24,
-    );
-    read(
-        b"bonds 1-2 0-2",
-        b"BNW\x01\x00\x03\x00\x02\x00\x01\x00\x02\x00\x00\x00\x02\x00",
+        &[b'B', b'N', b'W', 1, 0, 3, 0, 2, 0, a, 0, b, 0, c, 0, d, 0],
         24,
     );
 }
@@ -108,34 +97,82 @@ fn bonds() {
 // 27: eight and nine bonds on atom 0.
 fn ninth() {
     read(
-        b"eight bonds on an atom",
         b"BNW\x01\x00\x0a\x00\x08\x00\x00\x00\x01\x00\x00\x00\x02\x00\x00\x00\x03\x00\x00\x00\x04\x00\x00\x00\x05\x00\x00\x00\x06\x00\x00\x00\x07\x00\x00\x00\x08\x00",
         80,
     );
     read(
-        b"nine bonds on an atom",
         b"BNW\x01\x00\x0a\x00\x09\x00\x00\x00\x01\x00\x00\x00\x02\x00\x00\x00\x03\x00\x00\x00\x04\x00\x00\x00\x05\x00\x00\x00\x06\x00\x00\x00\x07\x00\x00\x00\x08\x00\x00\x00\x09\x00",
         80,
     );
 }
 
+// Reads a file into a table, the first `room` of 2,000 words, and shows 17 of these.
+fn read(file: &[u8], room: usize) {
+    if 2000 < room {
+        return;
+    }
+    let mut table = [9u16; 2000];
+    say::named(b"words", room);
+    say::text(b", file");
+    say::rows(file, file.len());
+    show(bnw::read(file, &mut table[..room]));
+    say::text(b"its table");
+    say::words(&table, 17);
+    say::line();
+}
+
+fn show(reading: Reading) {
+    say::text(b"read");
+    say::answer(reading.answer);
+    say::number(reading.atoms);
+    say::number(reading.bonds);
+    say::value(reading.value);
+    say::line();
+}
+
 // Fig. 1 written into 44, 45 and 46 bytes, and its file read and written again.
-fn figure() {
-    let mut table = [Network::FREE; 56];
-    models::figure(&mut table);
-    write(&table, 44);
-    write(&table, 45);
-    write(&table, 46);
+fn there(figure: &[u16]) {
+    write(figure, 44);
+    write(figure, 45);
+    write(figure, 46);
     back(
         b"BNW\x01\x00\x07\x00\x09\x00\x00\x00\x01\x00\x00\x00\x04\x00\x01\x00\x02\x00\x01\x00\x03\x00\x02\x00\x05\x00\x03\x00\x05\x00\x03\x00\x06\x00\x04\x00\x05\x00\x05\x00\x06\x00",
-        &table,
+        figure,
     );
+}
+
+// Writes seven atoms into so many bytes, and shows them and those after them.
+fn write(table: &[u16], room: usize) {
+    if 46 < room {
+        return;
+    }
+    let mut file = [9u8; 46];
+    let written = bnw::write(7, table, &mut file[..room]);
+    say::named(b"write, bytes", room);
+    say::answer(written.answer);
+    say::number(written.bytes);
+    say::line();
+    say::rows(&file, 46);
+}
+
+// The file of Fig. 1 read and written again.
+fn back(file: &[u8], table: &[u16]) {
+    let mut read = [0u16; 56];
+    show(bnw::read(file, &mut read));
+    same(table, &read);
+    write(&read, 45);
+}
+
+fn same(table: &[u16], read: &[u16]) {
+    say::named(b"the same words", models::alike(table, read));
+    say::named(b" of", table.len());
+    say::line();
 }
 
 // 250 atoms with eight bonds each: 1000 bonds in 4,009 bytes.
 fn greatest() {
     let mut table = [Network::FREE; 2000];
-    models::belt(&mut table);
+    models::circle(&mut table, Network::ATOMS, Network::ATOMS, 4);
     let mut file = [0u8; 4010];
     let written = bnw::write(Network::ATOMS, &table, &mut file);
     say::text(b"write, the most atoms and bonds");
@@ -151,68 +188,6 @@ fn again(file: &[u8], table: &[u16]) {
         return;
     }
     let mut read = [0u16; 2000];
-    let reading = bnw::read(&file[..4009], &mut read);
-    say::text(b"read, the most atoms and bonds");
-    show(reading);
-    say::text(b"the same words of 2000");
-    say::number(models::alike(table, &read));
-    say::line();
-}
-
-// Reads a file into a table of `room` words, and shows the first and the last of them.
-fn read(name: &[u8], file: &[u8], room: usize) {
-    let mut table = [9u16; 2000];
-    take(name, file, &mut table, room);
-    say::text(b"its table");
-    say::words(&table, 17);
-    say::line();
-}
-
-fn take(name: &[u8], file: &[u8], table: &mut [u16], room: usize) {
-    if table.len() < room {
-        return;
-    }
-    say::text(b"read, ");
-    say::text(name);
-    show(bnw::read(file, &mut table[..room]));
-}
-
-fn show(reading: Reading) {
-    say::answer(reading.answer);
-    say::number(reading.atoms);
-    say::number(reading.bonds);
-    say::value(reading.value);
-    say::line();
-}
-
-// Writes Fig. 1 into so many bytes.
-fn write(table: &[u16], room: usize) {
-    let mut file = [9u8; 46];
-    put(table, &mut file, room);
-    say::rows(&file, 46, 46);
-}
-
-fn put(table: &[u16], file: &mut [u8], room: usize) {
-    if file.len() < room {
-        return;
-    }
-    let written = bnw::write(7, table, &mut file[..room]);
-    say::text(b"write, bytes");
-    say::number(room);
-    say::answer(written.answer);
-    say::number(written.bytes);
-    say::line();
-}
-
-// The file of Fig. 1 read and written again.
-fn back(file: &[u8], table: &[u16]) {
-    let mut read = [0u16; 56];
-    show(bnw::read(file, &mut read));
-    say::text(b"the same words of 56");
-    say::number(models::alike(table, &read));
-    say::line();
-    let mut written = [0u8; 45];
-    say::answer(bnw::write(7, &read, &mut written).answer);
-    say::line();
-    say::rows(&written, 45, 45);
+    show(bnw::read(&file[..4009], &mut read));
+    same(table, &read);
 }

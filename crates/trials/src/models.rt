@@ -1,9 +1,10 @@
 // Networks to try, built bond by bond in ascending order, so that rows ascend.
+use crate::say;
 use network::Network;
 ghost use Prim.Native.Nat.{_≤_};
 
 // Every place free.
-pub fn clear(table: &mut [u16]) {
+fn clear(table: &mut [u16]) {
     let mut i = 0;
     while i < table.len() {
         table[i] = Network::FREE;
@@ -34,103 +35,69 @@ fn append(table: &mut [u16], x: usize, y: usize) {
 }
 
 // A bond.
-pub fn join(table: &mut [u16], x: usize, y: usize) {
+fn join(table: &mut [u16], x: usize, y: usize) {
     append(table, x, y);
     append(table, y, x);
 }
 
-// The network with these bonds, given as pairs of atoms.
+// The network with these bonds, each written as its two atoms, `01 04 12`.
 pub fn bonds(table: &mut [u16], pairs: &[u8]) {
     clear(table);
-    let mut k = 0;
-    while k < pairs.len() / 2 {
-        join(table, wide(pairs[2 * k]), wide(pairs[2 * k + 1]));
-        k += 1;
+    let mut k = 1;
+    while k < pairs.len() {
+        join(table, atom(pairs[k - 1]), atom(pairs[k]));
+        k += 3;
     }
 }
 
-fn wide(x: u8) -> usize {
-    x as usize
+// The atom that a digit names.
+fn atom(digit: u8) -> usize {
+    say::wide(digit % b'0')
 }
 
 // The paper's Fig. 1, a to g as 0 to 6.
 pub fn figure(table: &mut [u16]) {
-    bonds(
-        table,
-        b"\x00\x01\x00\x04\x01\x02\x01\x03\x02\x05\x03\x05\x03\x06\x04\x05\x05\x06",
-    );
+    bonds(table, b"01 04 12 13 25 35 36 45 56");
 }
 
-// A cycle of k atoms.
-pub fn cycle(table: &mut [u16], k: usize) {
-    clear(table);
-    if k < 3 {
-        return;
-    }
-    join(table, 0, 1);
-    join(table, 0, k - 1);
-    let mut i = 1;
-    while i < k - 1 {
-        join(table, i, i + 1);
-        i += 1;
-    }
-}
-
-// P5: a cycle of eight with atom 8 across it.
-pub fn cut_first(table: &mut [u16]) {
-    bonds(
-        table,
-        b"\x00\x01\x00\x07\x00\x08\x01\x02\x02\x03\x03\x04\x04\x05\x04\x08\x05\x06\x06\x07",
-    );
-}
-
-// P6: a cycle of eight with atom 0 across it.
-pub fn cut_second(table: &mut [u16]) {
-    bonds(
-        table,
-        b"\x00\x01\x00\x05\x01\x02\x01\x08\x02\x03\x03\x04\x04\x05\x05\x06\x06\x07\x07\x08",
-    );
-}
-
-// P7: a cycle of seven with atom 7 across it.
-pub fn cut_third(table: &mut [u16]) {
-    bonds(
-        table,
-        b"\x00\x01\x00\x06\x01\x02\x02\x03\x03\x04\x03\x07\x04\x05\x05\x06\x06\x07",
-    );
-}
-
-// 250 atoms in a circle, each bonded to the four on either side.
-pub fn belt(table: &mut [u16]) {
+// n atoms, one after the other around a circle of so many places, each bonded to those that stand up to `reach` places
+// from its own.
+pub fn circle(table: &mut [u16], n: usize, places: usize, reach: usize) {
     clear(table);
     let mut x = 0;
-    while x < Network::ATOMS {
-        join_near(table, x);
+    while x < n {
+        join_above(table, n, places, reach, x);
         x += 1;
     }
 }
 
 // The bonds of x to atoms above it.
-fn join_near(table: &mut [u16], x: usize) {
+fn join_above(table: &mut [u16], n: usize, places: usize, reach: usize, x: usize) {
     let mut y = x;
-    while y < Network::ATOMS {
-        join_circle(table, x, y);
+    while y < n {
+        join_near(table, places, reach, x, y);
         y += 1;
     }
 }
 
-fn join_circle(table: &mut [u16], x: usize, y: usize) {
-    if y <= x {
-        return;
-    }
-    let gap = y - x;
-    if gap <= 4 {
-        join(table, x, y);
-        return;
-    }
-    if Network::ATOMS - 4 <= gap {
+fn join_near(table: &mut [u16], places: usize, reach: usize, x: usize, y: usize) {
+    if near(places, reach, x, y) {
         join(table, x, y);
     }
+}
+
+fn near(places: usize, reach: usize, x: usize, y: usize) -> bool {
+    if places <= reach {
+        return false;
+    }
+    if y < x {
+        return false;
+    }
+    let gap = (y - x) % places;
+    if gap <= reach {
+        return 0 < gap;
+    }
+    places - reach <= gap
 }
 
 // How many words at the same places are the same.
@@ -151,44 +118,4 @@ fn equal(a: u16, b: u16) -> usize
     ensures { λ r. ⌜ r ≤ 1 ⌝ }
 {
     if a == b { 1 } else { 0 }
-}
-
-// A cycle of layers of four atoms, each bonded to the whole next layer.
-pub fn layers(table: &mut [u16], many: usize) {
-    clear(table);
-    if Network::ATOMS < many {
-        return;
-    }
-    let mut x = 0;
-    while x < many * 4 {
-        join_above(table, many, x);
-        x += 1;
-    }
-}
-
-// The bonds of x to atoms above it.
-fn join_above(table: &mut [u16], many: usize, x: usize) {
-    if Network::ATOMS < many {
-        return;
-    }
-    let mut y = x;
-    while y < many * 4 {
-        join_layers(table, many, x, y);
-        y += 1;
-    }
-}
-
-// x is bonded to y where y stands in the next layer, or x in the first and y in the last.
-fn join_layers(table: &mut [u16], many: usize, x: usize, y: usize) {
-    if y < x {
-        return;
-    }
-    let gap = y / 4 - x / 4;
-    if gap == 1 {
-        join(table, x, y);
-        return;
-    }
-    if gap + 1 == many {
-        join(table, x, y);
-    }
 }

@@ -11,6 +11,11 @@ pub fn number(n: usize) {
     io::print_decimal(STDOUT_FILENO, n as u64);
 }
 
+pub fn named(name: &[u8], n: usize) {
+    text(name);
+    number(n);
+}
+
 // A count field of a file, of those that the cases have.
 pub fn value(n: i32) {
     if n == 0 {
@@ -34,6 +39,7 @@ pub fn line() {
 
 // An answer's code, row and place.
 pub fn answer(a: Answer) {
+    text(b":");
     number(a.code as usize);
     number(a.row);
     number(a.place);
@@ -43,8 +49,13 @@ pub fn wide(x: u8) -> usize {
     x as usize
 }
 
-fn word(x: u16) -> usize {
-    x as usize
+// A word of a table or a list, a stroke for 65535, which is a free place.
+fn word(x: u16) {
+    if x == 65535 {
+        text(b" -");
+    } else {
+        number(x as usize);
+    }
 }
 
 // The first `count` words.
@@ -54,19 +65,16 @@ pub fn words(list: &[u16], count: usize) {
         if count <= i {
             return;
         }
-        number(word(list[i]));
+        word(list[i]);
         i += 1;
     }
 }
 
-// The first `count` bytes, `width` to a line.
-pub fn rows(bytes: &[u8], count: usize, width: usize) {
+// Bytes, `width` to a line.
+pub fn rows(bytes: &[u8], width: usize) {
     let mut i = 0;
     let mut left = width;
     while i < bytes.len() {
-        if count <= i {
-            return;
-        }
         number(wide(bytes[i]));
         left = next_left(left, width);
         i += 1;

@@ -12,23 +12,23 @@ mul-words c = search needs
 returns-2 : tie.Need-returns-2
 returns-2 c = search needs
 
-returns-3 : tie.Need-returns-3
-returns-3 c = search needs
+slice-aggregate-text : tie.Need-slice-aggregate-text
+slice-aggregate-text c = search needs
 
 text-requires : tie.Need-text-requires
 text-requires c κs = search needs
 
+words-requires : tie.Need-words-requires
+words-requires c κs = search needs
+
 slice-aggregate-show : tie.Need-slice-aggregate-show
 slice-aggregate-show c = search part-length
-
-slice-aggregate-show-2 : tie.Need-slice-aggregate-show-2
-slice-aggregate-show-2 c = search part-length
 
 show-requires : tie.Need-show-requires
 show-requires c κs = search needs
 
-returns-4 : tie.Need-returns-4
-returns-4 c = search needs
+returns-3 : tie.Need-returns-3
+returns-3 c = search needs
 
 pub test-spec : {M : Type 1} → statement M
 test-spec =
@@ -37,9 +37,9 @@ test-spec =
     returns
     mul-words
     returns-2
-    returns-3
+    slice-aggregate-text
     text-requires
+    words-requires
     slice-aggregate-show
-    slice-aggregate-show-2
     show-requires
-    returns-4)
+    returns-3)

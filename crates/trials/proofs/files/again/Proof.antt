@@ -15,32 +15,14 @@ slice-aggregate-read-2 c = search needs
 read-requires : tie.Need-read-requires
 read-requires c κs = search needs
 
-slice-aggregate-text : tie.Need-slice-aggregate-text
-slice-aggregate-text c = search needs
-
-text-requires : tie.Need-text-requires
-text-requires c κs = search needs
-
 show-requires : tie.Need-show-requires
 show-requires c κs = search needs
 
-slice-aggregate-text-2 : tie.Need-slice-aggregate-text-2
-slice-aggregate-text-2 c = search needs
+slice-aggregate-same : tie.Need-slice-aggregate-same
+slice-aggregate-same c = search needs
 
-text-requires-2 : tie.Need-text-requires-2
-text-requires-2 c κs = search needs
-
-slice-aggregate-alike : tie.Need-slice-aggregate-alike
-slice-aggregate-alike c = search needs
-
-alike-requires : tie.Need-alike-requires
-alike-requires c κs = search needs
-
-number-requires : tie.Need-number-requires
-number-requires c κs = search needs
-
-line-requires : tie.Need-line-requires
-line-requires c κs = search needs
+same-requires : tie.Need-same-requires
+same-requires c κs = search needs
 
 returns-2 : tie.Need-returns-2
 returns-2 c = search needs
@@ -53,13 +35,7 @@ again-spec =
     slice-aggregate-read
     slice-aggregate-read-2
     read-requires
-    slice-aggregate-text
-    text-requires
     show-requires
-    slice-aggregate-text-2
-    text-requires-2
-    slice-aggregate-alike
-    alike-requires
-    number-requires
-    line-requires
+    slice-aggregate-same
+    same-requires
     returns-2)

@@ -1,13 +1,12 @@
-use Prim.Native.Nat.{_≤_, _-_, _*_, _+_}
+use Prim.Native.Nat.{_≤_, _-_}
 use mathlib.Core.Path.{_≡_}
 use lib.ListN.{length}
-use native.Mathlib.Omega.{arith}
 use borrow.Author.Needs.{needs}
 use Rattle.trials.proofs.models.bonds.Statement.{statement}
 use Rattle.trials.proofs.models.bonds.Tie as tie
 
 abbrev Inv-loop : tie.InvT-loop
-Inv-loop table₀ pairs k₀ table k = (2 * k ≤ length pairs) × (length table ≡ length table₀)
+Inv-loop table₀ pairs k₀ table k = (1 ≤ k) × (length table ≡ length table₀)
 
 abbrev μ-loop : tie.MeasureT-loop
 μ-loop table₀ pairs k₀ table k = length pairs - k
@@ -18,26 +17,20 @@ clear-requires c κs = search needs
 loop-holds : tie.Need-loop-holds Inv-loop μ-loop
 loop-holds c = search needs
 
-mul-wide : tie.Need-mul-wide Inv-loop μ-loop
-mul-wide c = search needs
+sub-atom : tie.Need-sub-atom Inv-loop μ-loop
+sub-atom c = search needs
 
-shared-slice-read-wide : tie.Need-shared-slice-read-wide Inv-loop μ-loop
-shared-slice-read-wide c = search needs
+shared-slice-read-atom : tie.Need-shared-slice-read-atom Inv-loop μ-loop
+shared-slice-read-atom c = search needs
 
-wide-requires : tie.Need-wide-requires Inv-loop μ-loop
-wide-requires c κs = search needs
+atom-requires : tie.Need-atom-requires Inv-loop μ-loop
+atom-requires c κs = search needs
 
-mul-wide-2 : tie.Need-mul-wide-2 Inv-loop μ-loop
-mul-wide-2 c = search needs
+shared-slice-read-atom-2 : tie.Need-shared-slice-read-atom-2 Inv-loop μ-loop
+shared-slice-read-atom-2 c = search needs
 
-add-wide : tie.Need-add-wide Inv-loop μ-loop
-add-wide c = search needs
-
-shared-slice-read-wide-2 : tie.Need-shared-slice-read-wide-2 Inv-loop μ-loop
-shared-slice-read-wide-2 c = search needs
-
-wide-requires-2 : tie.Need-wide-requires-2 Inv-loop μ-loop
-wide-requires-2 c κs = search needs
+atom-requires-2 : tie.Need-atom-requires-2 Inv-loop μ-loop
+atom-requires-2 c κs = search needs
 
 join-requires : tie.Need-join-requires Inv-loop μ-loop
 join-requires c κs = search needs
@@ -65,13 +58,11 @@ bonds-spec =
     μ-loop
     clear-requires
     loop-holds
-    mul-wide
-    shared-slice-read-wide
-    wide-requires
-    mul-wide-2
-    add-wide
-    shared-slice-read-wide-2
-    wide-requires-2
+    sub-atom
+    shared-slice-read-atom
+    atom-requires
+    shared-slice-read-atom-2
+    atom-requires-2
     join-requires
     add-k
     loop-less

@@ -1,28 +1,21 @@
-use Prim.Native.Nat.{_≤_, _-_, _*_, _+_}
+use Prim.Native.Nat.{_-_}
 use mathlib.Core.Path.{_≡_}
 use lib.ListN.{length}
-use native.Mathlib.Omega.{arith}
 use borrow.Author.Needs.{needs}
 use Rattle.trials.proofs.models.join_above.Statement.{statement}
 use Rattle.trials.proofs.models.join_above.Tie as tie
 
 abbrev Inv-loop : tie.InvT-loop
-Inv-loop table₀ many x y₀ table y = length table ≡ length table₀
+Inv-loop table₀ n places reach x y₀ table y = length table ≡ length table₀
 
 abbrev μ-loop : tie.MeasureT-loop
-μ-loop table₀ many x y₀ table y = many * 4 - y
-
-returns : tie.Need-returns Inv-loop μ-loop
-returns c = search needs
+μ-loop table₀ n places reach x y₀ table y = n - y
 
 loop-holds : tie.Need-loop-holds Inv-loop μ-loop
 loop-holds c = search needs
 
-mul-loop : tie.Need-mul-loop Inv-loop μ-loop
-mul-loop c = search needs
-
-join-layers-requires : tie.Need-join-layers-requires Inv-loop μ-loop
-join-layers-requires c κs = search needs
+join-near-requires : tie.Need-join-near-requires Inv-loop μ-loop
+join-near-requires c κs = search needs
 
 add-y : tie.Need-add-y Inv-loop μ-loop
 add-y c = search needs
@@ -36,8 +29,8 @@ loop-again c = search needs
 same-length : tie.Need-same-length Inv-loop μ-loop
 same-length c = search needs
 
-returns-2 : tie.Need-returns-2 Inv-loop μ-loop
-returns-2 c = search needs
+returns : tie.Need-returns Inv-loop μ-loop
+returns c = search needs
 
 pub join-above-spec : {M : Type 1} → statement M
 join-above-spec =
@@ -45,12 +38,10 @@ join-above-spec =
     (tie.spec
     Inv-loop
     μ-loop
-    returns
     loop-holds
-    mul-loop
-    join-layers-requires
+    join-near-requires
     add-y
     loop-less
     loop-again
     same-length
-    returns-2)
+    returns)

@@ -1,20 +1,17 @@
-use Prim.Native.Nat.{_≤_, _-_, suc}
+use Prim.Native.Nat.{_≤_, _-_}
 use lib.ListN.{length}
 use borrow.Author.Needs.{needs}
 use Rattle.trials.proofs.say.rows.Statement.{statement}
 use Rattle.trials.proofs.say.rows.Tie as tie
 
 abbrev Inv-loop : tie.InvT-loop
-Inv-loop bytes count width i₀ left₀ i left = i ≤ length bytes
+Inv-loop bytes width i₀ left₀ i left = i ≤ length bytes
 
 abbrev μ-loop : tie.MeasureT-loop
-μ-loop bytes count width i₀ left₀ i left = length bytes - i
+μ-loop bytes width i₀ left₀ i left = length bytes - i
 
 loop-holds : tie.Need-loop-holds Inv-loop μ-loop
 loop-holds c = search needs
-
-returns : tie.Need-returns Inv-loop μ-loop
-returns c = search needs
 
 shared-slice-read-wide : tie.Need-shared-slice-read-wide Inv-loop μ-loop
 shared-slice-read-wide c = search needs
@@ -37,8 +34,8 @@ loop-less c = search needs
 loop-again : tie.Need-loop-again Inv-loop μ-loop
 loop-again c = search needs
 
-returns-2 : tie.Need-returns-2 Inv-loop μ-loop
-returns-2 c = search needs
+returns : tie.Need-returns Inv-loop μ-loop
+returns c = search needs
 
 pub rows-spec : {M : Type 1} → statement M
 rows-spec =
@@ -47,7 +44,6 @@ rows-spec =
     Inv-loop
     μ-loop
     loop-holds
-    returns
     shared-slice-read-wide
     wide-requires
     number-requires
@@ -55,4 +51,4 @@ rows-spec =
     add-i
     loop-less
     loop-again
-    returns-2)
+    returns)

@@ -1,4 +1,4 @@
-use Prim.Native.Nat.{_≤_, _-_, suc}
+use Prim.Native.Nat.{_≤_, _-_}
 use lib.ListN.{length}
 use borrow.Author.Needs.{needs}
 use Rattle.trials.proofs.say.words.Statement.{statement}
@@ -25,9 +25,6 @@ shared-slice-read-word c = search needs
 word-requires : tie.Need-word-requires Inv-loop μ-loop
 word-requires c κs = search needs
 
-number-requires : tie.Need-number-requires Inv-loop μ-loop
-number-requires c κs = search needs
-
 add-i : tie.Need-add-i Inv-loop μ-loop
 add-i c = search needs
 
@@ -51,7 +48,6 @@ words-spec =
     mul-word
     shared-slice-read-word
     word-requires
-    number-requires
     add-i
     loop-less
     loop-again

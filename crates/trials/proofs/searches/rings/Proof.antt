@@ -13,29 +13,26 @@ mul-words c = search needs
 returns-2 : tie.Need-returns-2
 returns-2 c = search needs
 
+ask-requires : tie.Need-ask-requires
+ask-requires c κs = search needs
+
 slice-aggregate-count : tie.Need-slice-aggregate-count
 slice-aggregate-count c = search part-length
 
 mul-dist : tie.Need-mul-dist
-mul-dist c = omega (arith, square (c .before .before .before .before .before .args .n) (c .before .before .if1 .left))
+mul-dist c = omega (arith, square (c .before .before .before .before .before .args .n) (c .before .before .before .if1 .left))
 
 array-borrow-prefix-dist : tie.Need-array-borrow-prefix-dist
-array-borrow-prefix-dist c = square (c .before .before .before .before .before .args .n) (c .before .before .if1 .left)
+array-borrow-prefix-dist c = square (c .before .before .before .before .before .args .n) (c .before .before .before .if1 .left)
 
 slice-aggregate-count-2 : tie.Need-slice-aggregate-count-2
-slice-aggregate-count-2 c = part-length _ _ (square (c .before .before .before .before .before .before .args .n) (c .before .before .before .if1 .left))
+slice-aggregate-count-2 c = part-length _ _ (square (c .before .before .before .before .before .before .args .n) (c .before .before .before .before .if1 .left))
 
 count-requires : tie.Need-count-requires
 count-requires c κs = search needs
 
-text-requires : tie.Need-text-requires
-text-requires c κs = search needs
-
 show-requires : tie.Need-show-requires
 show-requires c κs = search needs
-
-line-requires : tie.Need-line-requires
-line-requires c κs = search needs
 
 returns-3 : tie.Need-returns-3
 returns-3 c = search needs
@@ -47,12 +44,11 @@ rings-spec =
     returns
     mul-words
     returns-2
+    ask-requires
     slice-aggregate-count
     mul-dist
     array-borrow-prefix-dist
     slice-aggregate-count-2
     count-requires
-    text-requires
     show-requires
-    line-requires
     returns-3)

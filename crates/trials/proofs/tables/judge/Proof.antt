@@ -6,8 +6,17 @@ use Rattle.trials.proofs.tables.judge.Tie as tie
 returns : tie.Need-returns
 returns c = search needs
 
-text-requires : tie.Need-text-requires
-text-requires c κs = search needs
+slice-aggregate-named : tie.Need-slice-aggregate-named
+slice-aggregate-named c = search needs
+
+named-requires : tie.Need-named-requires
+named-requires c κs = search needs
+
+slice-aggregate-named-2 : tie.Need-slice-aggregate-named-2
+slice-aggregate-named-2 c = search needs
+
+named-requires-2 : tie.Need-named-requires-2
+named-requires-2 c κs = search needs
 
 slice-aggregate-validate : tie.Need-slice-aggregate-validate
 slice-aggregate-validate c = search part-length
@@ -29,7 +38,10 @@ judge-spec =
     tie.close
     (tie.spec
     returns
-    text-requires
+    slice-aggregate-named
+    named-requires
+    slice-aggregate-named-2
+    named-requires-2
     slice-aggregate-validate
     validate-requires
     answer-requires
