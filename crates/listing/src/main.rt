@@ -32,7 +32,7 @@ fn respond(file: &[u8], out: &mut [u8]) -> usize
     ensures { λ r. ⌜ r ≤ length (now (out .entry)) ⌝ }
 {
     let mut table = [0u16; Network::ATOMS * Network::PLACES];
-    let reading = bnw::read(file, &mut table);
+    let reading = bnw_reader::read(file, &mut table);
     let answer = reading.answer;
     if answer.code != 0 {
         return refuse(answer, out);

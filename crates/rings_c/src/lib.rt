@@ -144,7 +144,7 @@ pub extern "C" fn rings_renumber(
 pub extern "C" fn rings_read(file: &[u8], table: &mut [u16]) -> FlatReading
     ensures { λ r. ⌜ PassedOn flatReading (Reads (now (file .entry)) (now (table .entry)) (now (table .exit))) r ⌝ }
 {
-    let reading = bnw::read(file, table);
+    let reading = bnw_reader::read(file, table);
     flat::flat_reading(reading)
 }
 
@@ -153,6 +153,6 @@ pub extern "C" fn rings_read(file: &[u8], table: &mut [u16]) -> FlatReading
 pub extern "C" fn rings_write(n: usize, table: &[u16], file: &mut [u8]) -> FlatWritten
     ensures { λ r. ⌜ PassedOn flatWritten (Writes n (now (table .entry)) (now (file .entry)) (now (file .exit))) r ⌝ }
 {
-    let written = bnw::write(n, table, file);
+    let written = bnw_writer::write(n, table, file);
     flat::flat_written(written)
 }

@@ -115,7 +115,7 @@ fn read(file: &[u8], room: usize) {
     say::named(b"words", room);
     say::text(b", file");
     say::rows(file, file.len());
-    show(bnw::read(file, &mut table[..room]));
+    show(bnw_reader::read(file, &mut table[..room]));
     say::text(b"its table");
     say::words(&table, 17);
     say::line();
@@ -147,7 +147,7 @@ fn write(table: &[u16], room: usize) {
         return;
     }
     let mut file = [9u8; 46];
-    let written = bnw::write(7, table, &mut file[..room]);
+    let written = bnw_writer::write(7, table, &mut file[..room]);
     say::named(b"write, bytes", room);
     say::answer(written.answer);
     say::number(written.bytes);
@@ -158,7 +158,7 @@ fn write(table: &[u16], room: usize) {
 // The file of Fig. 1 read and written again.
 fn back(file: &[u8], table: &[u16]) {
     let mut read = [0u16; 56];
-    show(bnw::read(file, &mut read));
+    show(bnw_reader::read(file, &mut read));
     same(table, &read);
     write(&read, 45);
 }
@@ -174,7 +174,7 @@ fn greatest() {
     let mut table = [Network::FREE; 2000];
     models::circle(&mut table, Network::ATOMS, Network::ATOMS, 4);
     let mut file = [0u8; 4010];
-    let written = bnw::write(Network::ATOMS, &table, &mut file);
+    let written = bnw_writer::write(Network::ATOMS, &table, &mut file);
     say::text(b"write, the most atoms and bonds");
     say::answer(written.answer);
     say::number(written.bytes);
@@ -188,6 +188,6 @@ fn again(file: &[u8], table: &[u16]) {
         return;
     }
     let mut read = [0u16; 2000];
-    show(bnw::read(&file[..4009], &mut read));
+    show(bnw_reader::read(&file[..4009], &mut read));
     same(table, &read);
 }
