@@ -6,7 +6,7 @@ use native.Mathlib.Omega.{arith}
 use Rattle.network.specs.declared.Answer.{Answer}
 use Rattle.network.proofs.Networks.{network-of}
 use Rattle.distance.proofs.Outcomes as distance
-use Rattle.ring.proofs.Outcomes as ring
+use Rattle.candidate.proofs.Outcomes as ring
 use Rattle.search.specs.declared.Census.{Census}
 use Rattle.search.proofs.OneOutcome.{count-once, list-once}
 use Rattle.search.proofs.Settled.{reached}

@@ -18,11 +18,11 @@ use Rattle.network.specs.Network.{IsNetwork}
 use Rattle.network.specs.Verdict.{verdict}
 use Rattle.distance.specs.Distances.{DistanceTable}
 use Rattle.distance.specs.Outcome as distance
-use Rattle.ring.specs.declared.Shortest.the-variants.{Refused}
-use Rattle.ring.specs.declared.Tested.{Tested}
+use Rattle.candidate.specs.declared.Shortest.the-variants.{Refused}
+use Rattle.candidate.specs.declared.Tested.{Tested}
 use Rattle.ring.specs.Maxima.{ringMost}
-use Rattle.ring.specs.CandidateOutcome.{values, CandidateOutcome}
-use Rattle.ring.specs.CandidateOutcome as candidate
+use Rattle.candidate.specs.CandidateOutcome.{values, CandidateOutcome}
+use Rattle.candidate.specs.CandidateOutcome as candidate
 use Rattle.search.specs.declared.Census.{Census}
 use Rattle.search.specs.Census.{encode, noCensus, CountOutcome, ListOutcome}
 use Rattle.renumber.specs.Outcome.{Renumbered}

@@ -14,7 +14,7 @@ use borrow.Author.Tests.{le-leb, lt-leb}
 use Rattle.graph.proofs.Lists.{length-made, getD-made}
 use Rattle.graph.proofs.Writings.{onwards-written, backwards-written}
 use Rattle.ring.specs.Maxima.{ringLeast, ringMost}
-use Rattle.ring.specs.Writes.{padded, notRing, lengthOf, atomsOf, placeAt, readFrom, Writes}
+use Rattle.ring.specs.Writes.{padded, notRing, lengthOf, atomsOf, placeAt, readFrom, lengthFrom, atomsFrom, Writes}
 
 -- the lengths of rings
 pub too-short : (k : ℕ) → k < ringLeast → notRing k ≡ true
@@ -54,10 +54,6 @@ right-length k h = go (decLe ringLeast k) (decLe k ringMost)
     go (yes l) (no m) = absurd (clash (too-long k (omega arith)))
     go (no l) _ = absurd (clash (too-short k (omega arith)))
 
-pub of-none : (r : List ℕ) (m : ℕ) (words : List ℕ) → notRing (length r) ≡ true → m ≡ 0 → words ≡ replicate ringMost 0 → (m ≡ lengthOf (length r)) × (words ≡ atomsOf r)
-unfolding lengthOf atomsOf
-of-none r m words h e f = rw h (e, f)
-
 -- reading
 module _ (r : List ℕ) (start : ℕ) (onwards : Bool) where
   pub reading-long : length (readFrom r start onwards) ≡ length r
@@ -73,6 +69,15 @@ place-onwards k start i m b e h l = (h ∙ sym (ap (λ c. placeAt k start c i) e
 pub place-backwards : (k start i m : ℕ) (b : Bool) → b ≡ false → m ≡ (start + (k - i)) % k → start < k → (m ≡ placeAt k start b i) × (m < k)
 unfolding placeAt
 place-backwards k start i m b e h l = (h ∙ sym (ap (λ c. placeAt k start c i) e), rw h (mod-lt (start + (k - i)) (omega arith)))
+
+-- the places beside a place
+pub place-next : (k start : ℕ) → (start + 1) % k ≡ placeAt k start true 1
+unfolding placeAt
+place-next k start = refl
+
+pub place-last : (k start : ℕ) → (start + (k - 1)) % k ≡ placeAt k start false 1
+unfolding placeAt
+place-last k start = refl
 
 -- the words hold the first i of s, then zeros
 pub record Copied (s words : List ℕ) (i : ℕ) : Type 0 where
@@ -123,9 +128,33 @@ reading-itself r = ext-getD 0 (readFrom r 0 true) r (reading-long r 0 true) λ i
     let k : i < length r = omega (arith, reading-long r 0 true) in
     reading-at r 0 true i k ∙ ap (λ x. getD r x 0) (ap (λ x. x % length r) (let e : 0 + i ≡ i = omega arith in e) ∙ mod-eq-of-lt k)
 
-pub of-words : (r : List ℕ) (m : ℕ) (words : List ℕ) → ringLeast ≤ length r → length r ≤ ringMost → m ≡ length r → words ≡ padded (readFrom r 0 true) → (m ≡ lengthOf (length r)) × (words ≡ atomsOf r)
-unfolding lengthOf atomsOf
-of-words r m words l k e f = rw (long-enough (length r) l k) (e, f ∙ ap padded (reading-itself r))
+-- a reading from a place on
+module _ (r : List ℕ) (start : ℕ) (onwards : Bool) where
+  pub from-no-ring : (m : ℕ) (words : List ℕ) → notRing (length r) ≡ true → m ≡ 0 → words ≡ replicate ringMost 0 → (m ≡ lengthFrom (length r) start) × (words ≡ atomsFrom r start onwards)
+  unfolding lengthFrom atomsFrom
+  from-no-ring m words h e f = rw h (e, f)
+
+  module _ (l : ringLeast ≤ length r) (k : length r ≤ ringMost) where
+    pub from-no-place : (m : ℕ) (words : List ℕ) → length r ≤ start → m ≡ 0 → words ≡ replicate ringMost 0 → (m ≡ lengthFrom (length r) start) × (words ≡ atomsFrom r start onwards)
+    unfolding lengthFrom atomsFrom
+    from-no-place m words h e f = rw (long-enough (length r) l k, le-leb (length r) start h) (e, f)
+
+    module _ (h : start < length r) where
+      pub from-words : (m : ℕ) (words : List ℕ) → m ≡ length r → words ≡ padded (readFrom r start onwards) → (m ≡ lengthFrom (length r) start) × (words ≡ atomsFrom r start onwards)
+      unfolding lengthFrom atomsFrom
+      from-words m words e f = rw (long-enough (length r) l k, lt-leb (length r) start h) (e, f)
+
+      pub words-from : atomsFrom r start onwards ≡ padded (readFrom r start onwards)
+      unfolding atomsFrom
+      words-from = rw (long-enough (length r) l k, lt-leb (length r) start h)
+
+pub from-start : (r : List ℕ) → (lengthFrom (length r) 0 ≡ lengthOf (length r)) × (atomsFrom r 0 true ≡ atomsOf r)
+unfolding lengthFrom lengthOf atomsFrom atomsOf
+from-start r = go (notRing (length r)) refl
+  where
+    go : (b : Bool) → notRing (length r) ≡ b → (lengthFrom (length r) 0 ≡ lengthOf (length r)) × (atomsFrom r 0 true ≡ atomsOf r)
+    go true h = rw h (refl, refl)
+    go false h = let some : 0 < length r = omega (arith, right-length (length r) h .0) in rw (h, lt-leb (length r) 0 some) (refl, ap padded (reading-itself r))
 
 -- the reading from a smallest atom on, in the right direction, is the one writing
 module _ (r : List ℕ) (h : ringLeast ≤ length r) (d : (i j : ℕ) → i < j → j < length r → getD r i 0 ≢ getD r j 0)

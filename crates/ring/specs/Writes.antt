@@ -5,9 +5,10 @@
 --   lengthOf k                    k, or 0 where k is no such length
 --   atomsOf r                     the words of r, or zeros where r is too short or too long
 --   readFrom r start onwards      r read from a place on, round the ring, onwards or backwards
+--   lengthFrom k start, atomsFrom r start onwards    the same of such a reading, or 0 and zeros where there is no such ring or place
 --   Writes r words                the words are the one writing of r, filled up with zeros
 use mathlib.Core.Path.{_≡_}
-use mathlib.Core.Bool.{Bool, true, false, cond, not, _&&_}
+use mathlib.Core.Bool.{Bool, true, false, cond, not, _&&_, _||_}
 use mathlib.Core.List.{List, _++_, map}
 use Prim.Native.Nat.{ℕ, _+_, _-_, _%_}
 use lib.Dec.{leb}
@@ -35,6 +36,13 @@ placeAt k start false i = (start + (k - i)) % k
 
 abbrev pub readFrom : List ℕ → ℕ → Bool → List ℕ
 readFrom r start onwards = map (λ i. getD r (placeAt (length r) start onwards i) 0) (count (length r) 0)
+
+-- a ring read from a place on, where there is such a ring and such a place
+unfoldable pub lengthFrom : ℕ → ℕ → ℕ
+lengthFrom k start = cond (notRing k || leb k start) 0 k
+
+unfoldable pub atomsFrom : List ℕ → ℕ → Bool → List ℕ
+atomsFrom r start onwards = cond (notRing (length r) || leb (length r) start) (replicate ringMost 0) (padded (readFrom r start onwards))
 
 pub record Writes (r words : List ℕ) : Type 0 where
   pub writing : List ℕ

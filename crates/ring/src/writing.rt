@@ -1,24 +1,10 @@
-// A ring read from one of its places on, and its one writing.
+// A ring read from one of its places on.
 use crate::Ring;
 ghost use mathlib.Core.Path.{_≡_};
-ghost use Prim.Native.Nat.{ℕ, _+_, _≤_, _<_};
-ghost use lib.ListN.{length, getD};
-ghost use Rattle.ring.specs.Maxima.{ringLeast, ringMost};
-ghost use Rattle.ring.specs.Writes.{padded, placeAt, readFrom, Writes};
-
-// The one writing of a ring of different atoms: the smallest first, and the second smaller than the last.
-pub fn one_writing(ring: &[u16]) -> Ring
-    requires { ⌜ (ringLeast ≤ length (now ring)) × (length (now ring) ≤ ringMost) × ((i j : ℕ) → i < j → j < length (now ring) → getD (now ring) i 0 ≡ getD (now ring) j 0 → ⊥) ⌝ }
-    ensures { λ r. ⌜ Writes (now (ring .entry)) (r .atoms) ⌝ }
-{
-    let start = least_place(ring);
-    let next = ring[place_at(ring.len(), start, true, 1)];
-    let last = ring[place_at(ring.len(), start, false, 1)];
-    if next < last {
-        return read(ring, start, true);
-    }
-    read(ring, start, false)
-}
+ghost use Prim.Native.Nat.{_≤_, _<_};
+ghost use lib.ListN.{length};
+ghost use Rattle.ring.specs.Maxima.{ringMost};
+ghost use Rattle.ring.specs.Writes.{padded, placeAt, readFrom};
 
 // The ring read from a place on, onwards or backwards.
 pub fn read(ring: &[u16], start: usize, onwards: bool) -> Ring
@@ -46,29 +32,4 @@ fn place_at(k: usize, start: usize, onwards: bool, i: usize) -> usize
         return (start + i) % k;
     }
     (start + (k - i)) % k
-}
-
-// A place whose atom no other is below.
-fn least_place(ring: &[u16]) -> usize
-    requires { ⌜ 0 < length (now ring) ⌝ }
-    ensures { λ r. ⌜ (r < length (now (ring .entry))) × ((i : ℕ) → i < length (now (ring .entry)) → getD (now (ring .entry)) r 0 ≤ getD (now (ring .entry)) i 0) ⌝ }
-{
-    let mut least = 0;
-    let mut i = 1;
-    while i < ring.len() {
-        least = smaller(ring, least, i);
-        i += 1;
-    }
-    least
-}
-
-// The one of two places whose atom is smaller.
-fn smaller(ring: &[u16], i: usize, j: usize) -> usize
-    requires { ⌜ (i < length (now ring)) × (j < length (now ring)) ⌝ }
-    ensures { λ r. ⌜ (r < length (now (ring .entry))) × (getD (now (ring .entry)) r 0 ≤ getD (now (ring .entry)) i 0) × (getD (now (ring .entry)) r 0 ≤ getD (now (ring .entry)) j 0) ⌝ }
-{
-    if ring[j] < ring[i] {
-        return j;
-    }
-    i
 }

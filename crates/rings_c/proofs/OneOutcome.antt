@@ -3,8 +3,8 @@
 use mathlib.Core.Path.{_≡_, sym, _∙_, ap}
 use mathlib.Core.List.{List}
 use Prim.Native.Nat.{ℕ}
-use Rattle.ring.specs.CandidateOutcome.{CandidateOutcome}
-use Rattle.ring.proofs.Outcomes as ring
+use Rattle.candidate.specs.CandidateOutcome.{CandidateOutcome}
+use Rattle.candidate.proofs.Outcomes as ring
 use Rattle.search.specs.Census.{CountOutcome, ListOutcome}
 use Rattle.search.proofs.OneOutcome as search
 use Rattle.bnw.specs.Reading.{Reads}

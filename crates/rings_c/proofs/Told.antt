@@ -7,10 +7,10 @@ use Prim.Native.Nat.{ℕ, zero, suc}
 use native.Mathlib.Omega.{arith}
 use lib.Dec.{T}
 use lib.Ieee.{Float}
-use Rattle.ring.specs.declared.Shortest.{Shortest}
-use Rattle.ring.specs.declared.Shortest.the-variants.{Yes, No, Refused}
-use Rattle.ring.specs.declared.Tested.{Tested}
-use Rattle.ring.specs.CandidateOutcome.{values, Says, CandidateOutcome}
+use Rattle.candidate.specs.declared.Shortest.{Shortest}
+use Rattle.candidate.specs.declared.Shortest.the-variants.{Yes, No, Refused}
+use Rattle.candidate.specs.declared.Tested.{Tested}
+use Rattle.candidate.specs.CandidateOutcome.{values, Says, CandidateOutcome}
 use Rattle.search.specs.declared.Mean.{Mean}
 use Rattle.search.specs.declared.Mean.the-variants.{Of, NoRings}
 use Rattle.search.specs.declared.Census.{Census}

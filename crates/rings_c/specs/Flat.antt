@@ -8,8 +8,8 @@
 use mathlib.Core.Path.{_≡_}
 use mathlib.Core.Bool.{Bool, true, false}
 use lib.Ieee.{Float}
-use Rattle.ring.specs.declared.Tested.{Tested}
-use Rattle.ring.specs.CandidateOutcome.{values}
+use Rattle.candidate.specs.declared.Tested.{Tested}
+use Rattle.candidate.specs.CandidateOutcome.{values}
 use Rattle.search.specs.declared.Mean.{Mean}
 use Rattle.search.specs.declared.Mean.the-variants.{Of, NoRings}
 use Rattle.search.specs.declared.Census.{Census}

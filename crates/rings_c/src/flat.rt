@@ -5,12 +5,12 @@ use crate::FlatReading;
 use crate::FlatWritten;
 use bnw::Reading;
 use bnw::Written;
-use ring::Shortest;
-use ring::Tested;
+use candidate::Shortest;
+use candidate::Tested;
 use search::Census;
 use search::Mean;
 ghost use mathlib.Core.Path.{_≡_};
-ghost use Rattle.ring.specs.CandidateOutcome.{values};
+ghost use Rattle.candidate.specs.CandidateOutcome.{values};
 ghost use Rattle.rings_c.specs.Flat.{hasMean, meanValue, flatCensus, flatCandidate, flatReading, flatWritten};
 
 // What counting and listing answer: the mean with a flag.

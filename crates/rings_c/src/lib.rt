@@ -7,7 +7,7 @@ use network::Answer;
 use ring::Ring;
 ghost use mathlib.Core.Path.{_≡_};
 ghost use Rattle.network.specs.Verdict.{verdict};
-ghost use Rattle.ring.specs.CandidateOutcome.{CandidateOutcome};
+ghost use Rattle.candidate.specs.CandidateOutcome.{CandidateOutcome};
 ghost use Rattle.search.specs.Census.{CountOutcome, ListOutcome};
 ghost use Rattle.bnw.specs.Reading.{Reads};
 ghost use Rattle.bnw.specs.Writing.{Writes};
@@ -91,7 +91,7 @@ pub extern "C" fn rings_test(
 ) -> FlatCandidate
     ensures { λ r. ⌜ PassedOn flatCandidate (CandidateOutcome n (now (table .entry)) (now (ring .entry)) (now (dist .entry)) (now (dist .exit))) r ⌝ }
 {
-    let tested = ring::candidate(n, table, ring, dist);
+    let tested = candidate::test(n, table, ring, dist);
     flat::flat_candidate(tested)
 }
 

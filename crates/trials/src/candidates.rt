@@ -1,9 +1,9 @@
 // The test of one candidate: refusals 14 to 17 from both sides, and Fig. 1's rings.
 use crate::models;
 use crate::say;
+use candidate::Shortest;
 use network::Network;
 use ring::Ring;
-use ring::Shortest;
 
 pub fn run(figure: &[u16]) {
     cycle();
@@ -96,7 +96,7 @@ fn show(n: usize, table: &[u16], ring: &[u16]) {
         return;
     }
     let mut dist = [9u8; 1600];
-    let tested = ring::candidate(n, table, ring, &mut dist[..n * n]);
+    let tested = candidate::test(n, table, ring, &mut dist[..n * n]);
     say::answer(tested.answer);
     let shortest = tested.shortest;
     outcome(shortest);

@@ -1,7 +1,10 @@
+use mathlib.Core.Path.{sym, _∙_, ap}
+use native.Mathlib.Nat.{mul-le-mul}
 use native.Mathlib.Omega.{arith}
 use borrow.Author.Needs.{needs}
 use Rattle.network.proofs.Verdicts.{some-atoms}
-use Rattle.distance.proofs.Outcomes.{square, is-network}
+use Rattle.network.proofs.Networks.{network-of}
+use Rattle.network.specs.declared.Answer.{Answer}
 use Rattle.ring.proofs.CandidateVerdicts.{says-1, says-4, says-5, says-faults, says-rest}
 use Rattle.ring.proofs.faults.faults_of.Statement.{statement}
 use Rattle.ring.proofs.faults.faults_of.Tie as tie
@@ -25,7 +28,7 @@ returns-2 : tie.Need-returns-2
 returns-2 c = search says-4
 
 mul-if3 : tie.Need-mul-if3
-mul-if3 c = omega (arith, square _ (some-atoms _ _ (c .before .before .before .of .ensures) (c .before .if1 .left) .most))
+mul-if3 c = let most = some-atoms _ _ (c .before .before .before .of .ensures) (c .before .if1 .left) .most in omega (arith, mul-le-mul most most)
 
 refused-requires-3 : tie.Need-refused-requires-3
 refused-requires-3 c κs = search needs
@@ -40,7 +43,7 @@ returns-4 : tie.Need-returns-4
 returns-4 c = search says-faults
 
 ring-faults-requires : tie.Need-ring-faults-requires
-ring-faults-requires c κs = is-network _ _ _ (c .before .before .validate .ensures) (c .if4 .left)
+ring-faults-requires c κs = network-of _ _ (ap (λ (a : Answer). a .code) (sym (c .before .before .validate .ensures)) ∙ c .if4 .left)
 
 returns-5 : tie.Need-returns-5
 returns-5 c = search says-rest

@@ -13,11 +13,11 @@ mul-dist c = omega (arith, square (c .before .before .before .args .n) (c .if1 .
 array-borrow-prefix-dist : tie.Need-array-borrow-prefix-dist
 array-borrow-prefix-dist c = square (c .before .before .before .args .n) (c .if1 .left)
 
-slice-aggregate-candidate : tie.Need-slice-aggregate-candidate
-slice-aggregate-candidate c = part-length _ _ (square (c .before .before .before .before .args .n) (c .before .if1 .left))
+slice-aggregate-test : tie.Need-slice-aggregate-test
+slice-aggregate-test c = part-length _ _ (square (c .before .before .before .before .args .n) (c .before .if1 .left))
 
-candidate-requires : tie.Need-candidate-requires
-candidate-requires c κs = search needs
+test-requires : tie.Need-test-requires
+test-requires c κs = search needs
 
 answer-requires : tie.Need-answer-requires
 answer-requires c κs = search needs
@@ -44,8 +44,8 @@ show-spec =
     returns
     mul-dist
     array-borrow-prefix-dist
-    slice-aggregate-candidate
-    candidate-requires
+    slice-aggregate-test
+    test-requires
     answer-requires
     outcome-requires
     slice-aggregate-words

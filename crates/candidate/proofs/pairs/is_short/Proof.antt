@@ -4,9 +4,9 @@ use native.Mathlib.Omega.{arith}
 use borrow.Author.Needs.{needs}
 use lib.Dec.{ltb}
 use lib.ListN.{getD}
-use Rattle.ring.proofs.ShorterPairs.{entry-inside, entry-small}
-use Rattle.ring.proofs.pairs.is_short.Statement.{statement}
-use Rattle.ring.proofs.pairs.is_short.Tie as tie
+use Rattle.candidate.proofs.ShorterPairs.{entry-inside, entry-small}
+use Rattle.candidate.proofs.pairs.is_short.Statement.{statement}
+use Rattle.candidate.proofs.pairs.is_short.Tie as tie
 
 mul-from : tie.Need-mul-from
 mul-from c = search needs

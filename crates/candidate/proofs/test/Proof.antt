@@ -1,8 +1,8 @@
 use mathlib.Core.Path.{refl}
 use borrow.Author.Needs.{needs}
-use Rattle.ring.proofs.Outcomes.{passed, passed-atoms, filled-table, out-refused, out-no, out-yes}
-use Rattle.ring.proofs.candidate.Statement.{statement}
-use Rattle.ring.proofs.candidate.Tie as tie
+use Rattle.candidate.proofs.Outcomes.{passed, passed-atoms, filled-table, out-refused, out-no, out-yes}
+use Rattle.candidate.proofs.test.Statement.{statement}
+use Rattle.candidate.proofs.test.Tie as tie
 
 faults-of-requires : tie.Need-faults-of-requires
 faults-of-requires c κs = search needs
@@ -58,8 +58,8 @@ returns-3 c =
     let says = filled .before .before .before .before .faults-of .ensures in
     out-yes _ _ _ _ _ says (filled .before .before .if1 .left) _ _ (filled .distances .ensures) _ _ refl refl (c .before .one-writing .ensures) (short .first-short .ensures) (c .before .before .if2 .left)
 
-pub candidate-spec : {M : Type 1} → statement M
-candidate-spec =
+pub test-spec : {M : Type 1} → statement M
+test-spec =
     tie.close
     (tie.spec
     faults-of-requires

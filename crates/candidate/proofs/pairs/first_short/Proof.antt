@@ -4,11 +4,11 @@ use native.Mathlib.Omega.{arith}
 use borrow.Author.Needs.{needs}
 use lib.Dec.{ltb}
 use lib.ListN.{length}
 use Rattle.ring.specs.Firsts.{firstOf}
-use Rattle.ring.specs.ShorterPairs.{shortAfter, shortPlace}
+use Rattle.candidate.specs.ShorterPairs.{shortAfter, shortPlace}
 use Rattle.ring.proofs.Firsts.{first-start, first-here, first-next, first-never, below, not-below}
-use Rattle.ring.proofs.pairs.first_short.Statement.{statement}
-use Rattle.ring.proofs.pairs.first_short.Tie as tie
+use Rattle.candidate.proofs.pairs.first_short.Statement.{statement}
+use Rattle.candidate.proofs.pairs.first_short.Tie as tie
 
 abbrev Inv-loop : tie.InvT-loop
 Inv-loop n ring dist i₀ i = (i ≤ length ring) × (shortPlace n dist ring ≡ firstOf (λ x. ltb (shortAfter n dist ring x) (length ring)) (length ring - i) i)

@@ -4,9 +4,9 @@ ghost use Prim.Native.Nat.{_+_, _*_, _≤_, _<_};
 ghost use lib.ListN.{length};
 ghost use Rattle.graph.specs.Graph.{around};
 ghost use Rattle.network.specs.Maxima.{atomsMost};
 ghost use Rattle.ring.specs.Maxima.{ringMost};
 ghost use Rattle.ring.specs.CandidateVerdict.{AtomsBelow};
-ghost use Rattle.ring.specs.ShorterPairs.{short, shortAfter, shortPlace};
+ghost use Rattle.candidate.specs.ShorterPairs.{short, shortAfter, shortPlace};
 
 // The first place that is nearer to a later one than round the ring, or the length.
 pub fn first_short(n: usize, ring: &[u16], dist: &[u8]) -> usize

@@ -16,12 +16,12 @@ use lib.ListN.{length, getD, replicate}
 use Rattle.graph.specs.Graph.{Distance, around, ShortestPathRing}
 use Rattle.network.specs.Network.{Bonded}
 use Rattle.distance.specs.Distances.{DistanceTable}
-use Rattle.ring.specs.declared.Shortest.{Shortest}
-use Rattle.ring.specs.declared.Shortest.the-variants.{Yes, No, Refused}
-use Rattle.ring.specs.declared.Tested.{Tested}
+use Rattle.candidate.specs.declared.Shortest.{Shortest}
+use Rattle.candidate.specs.declared.Shortest.the-variants.{Yes, No, Refused}
+use Rattle.candidate.specs.declared.Tested.{Tested}
 use Rattle.ring.specs.Maxima.{ringMost}
 use Rattle.ring.specs.Writes.{Writes}
 use Rattle.ring.specs.CandidateVerdict.{candidateVerdict}
 
 pub record Values : Type 0 where
   pub yes : Bool

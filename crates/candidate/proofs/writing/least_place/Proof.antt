@@ -1,9 +1,9 @@
 use Prim.Native.Nat.{_≤_, _-_}
 use native.Mathlib.Omega.{arith}
 use lib.ListN.{length}
 use Rattle.ring.proofs.Readers.{Least, least-first, least-more, least-all}
-use Rattle.ring.proofs.writing.least_place.Statement.{statement}
-use Rattle.ring.proofs.writing.least_place.Tie as tie
+use Rattle.candidate.proofs.writing.least_place.Statement.{statement}
+use Rattle.candidate.proofs.writing.least_place.Tie as tie
 
 abbrev Inv-loop : tie.InvT-loop
 Inv-loop ring least₀ i₀ least i = (i ≤ length ring) × Least ring least i

@@ -20,16 +20,16 @@ use Rattle.network.proofs.Bonds.{bonded-back}
 use Rattle.distance.specs.Distances.{DistanceTable}
 use Rattle.distance.specs.Outcome.{Outcome}
 use Rattle.distance.proofs.Outcomes.{accepted-of-distance, table-unique}
-use Rattle.ring.specs.declared.Shortest.{Shortest}
-use Rattle.ring.specs.declared.Shortest.the-variants.{Yes, No, Refused}
-use Rattle.ring.specs.declared.Tested.{Tested}
+use Rattle.candidate.specs.declared.Shortest.{Shortest}
+use Rattle.candidate.specs.declared.Shortest.the-variants.{Yes, No, Refused}
+use Rattle.candidate.specs.declared.Tested.{Tested}
 use Rattle.ring.specs.Maxima.{ringLeast, ringMost}
 use Rattle.ring.specs.Writes.{padded, Writes}
 use Rattle.ring.specs.CandidateVerdict.{candidateVerdict, AtomsBelow}
-use Rattle.ring.specs.ShorterPairs.{shortAfter, shortPlace}
-use Rattle.ring.specs.CandidateOutcome.{values, Shorter, FirstPair, Says, CandidateOutcome}
+use Rattle.candidate.specs.ShorterPairs.{shortAfter, shortPlace}
+use Rattle.candidate.specs.CandidateOutcome.{values, Shorter, FirstPair, Says, CandidateOutcome}
 use Rattle.ring.proofs.CandidateVerdicts.{Accepted, accepted-exactly, ring-atoms}
-use Rattle.ring.proofs.ShorterPairs.{yes-shortest, no-pair}
+use Rattle.candidate.proofs.ShorterPairs.{yes-shortest, no-pair}
 
 abbrev code : Answer → ℕ
 code a = a .code

@@ -3,11 +3,11 @@ use mathlib.Core.Path.{_≡_, refl, sym, _∙_}
 use native.Mathlib.Omega.{arith}
 use borrow.Author.Needs.{needs}
 use lib.ListN.{length}
 use Rattle.ring.specs.Firsts.{firstOf}
-use Rattle.ring.specs.ShorterPairs.{short, shortAfter}
+use Rattle.candidate.specs.ShorterPairs.{short, shortAfter}
 use Rattle.ring.proofs.Firsts.{first-here, first-next, first-never}
-use Rattle.ring.proofs.pairs.short_after.Statement.{statement}
-use Rattle.ring.proofs.pairs.short_after.Tie as tie
+use Rattle.candidate.proofs.pairs.short_after.Statement.{statement}
+use Rattle.candidate.proofs.pairs.short_after.Tie as tie
 
 abbrev Inv-loop : tie.InvT-loop
 Inv-loop n ring dist i j₀ j = (i + 1 ≤ j) × (j ≤ length ring) × (shortAfter n dist ring i ≡ firstOf (short n dist ring i) (length ring - j) j)

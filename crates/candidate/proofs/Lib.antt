@@ -1,0 +1,3 @@
+-- Laws of the candidate test.
+pub mod ShorterPairs
+pub mod Outcomes

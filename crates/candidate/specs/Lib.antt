@@ -1,0 +1,3 @@
+-- What comes of testing a candidate. Read CandidateOutcome; ShorterPairs computes.
+pub mod ShorterPairs
+pub mod CandidateOutcome
