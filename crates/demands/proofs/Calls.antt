@@ -7,9 +7,9 @@ use Rattle.network.specs.declared.Answer.{Answer}
 use Rattle.network.proofs.Networks.{network-of}
 use Rattle.distance.proofs.Outcomes as distance
 use Rattle.candidate.proofs.Outcomes as ring
-use Rattle.search.specs.declared.Census.{Census}
-use Rattle.search.proofs.OneOutcome.{count-once, list-once}
-use Rattle.search.proofs.Settled.{reached}
+use Rattle.census.specs.declared.Census.{Census}
+use Rattle.census.proofs.OneOutcome.{count-once, list-once}
+use Rattle.census.proofs.Settled.{reached}
 use Rattle.renumber.proofs.OneOutcome as renumber
 use Rattle.bnw.specs.Reading.{atomsIn, bondsIn}
 use Rattle.bnw.proofs.HeadFaults.{value-22, value-23, value-else}

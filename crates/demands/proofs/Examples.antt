@@ -15,9 +15,9 @@ use Rattle.examples.specs.Examples.{Example, tableOf, Holds, AllHold, examples,
 use Rattle.network.proofs.Networks.{network-of}
 use Rattle.examples.proofs.Examples.{examples-hold}
 use Rattle.ring.specs.Maxima.{ringLeast, ringMost}
-use Rattle.search.specs.declared.Census.{Census}
-use Rattle.search.specs.Census.{limitOf, beforeSearch, encode, censusOf, afterList, settled}
-use Rattle.search.proofs.Passed.{limit-given, reached-exactly}
+use Rattle.census.specs.declared.Census.{Census}
+use Rattle.census.specs.Census.{limitOf, beforeSearch, encode, censusOf, afterList, settled}
+use Rattle.census.proofs.Passed.{limit-given, reached-exactly}
 use Rattle.graph.proofs.Lists.{sets-front}
 use Rattle.demands.specs.Examples.{ExamplesHold, ExamplesListed}
 

@@ -12,7 +12,7 @@ use Rattle.network.specs.Network.{Bonded, IsNetwork}
 use Rattle.network.specs.Verdict.{answer}
 use Rattle.network.specs.FirstFault.{AtPlace, Earlier, NamesPlace, NamesFirst}
 use Rattle.network.specs.FirstFault as table
-use Rattle.search.specs.Census.{limitOf}
+use Rattle.census.specs.Census.{limitOf}
 use Rattle.bnw.specs.File.{Bond}
 use Rattle.bnw.specs.FirstBond.{Misplaced, Ninth, NamesBond}
 use Rattle.demands.specs.Refusals.{Says, OneAnswer, Check, Table, Places, OfRings, Accepted}

@@ -14,9 +14,9 @@ use Rattle.renumber.specs.Carried.{CarriedTo}
 use Rattle.renumber.proofs.Outcomes.{accepts}
 use Rattle.renumber.proofs.Carried.{call-carries}
 use Rattle.ring.specs.Maxima.{ringMost}
-use Rattle.search.specs.declared.Census.{Census}
-use Rattle.search.specs.Census.{limitOf, beforeSearch, encode, countsOf, noCensus, settled, afterCount, afterList, Searched, Outcome}
-use Rattle.search.proofs.Settled.{code}
+use Rattle.census.specs.declared.Census.{Census}
+use Rattle.census.specs.Census.{limitOf, beforeSearch, encode, countsOf, noCensus, settled, afterCount, afterList, Searched, Outcome}
+use Rattle.census.proofs.Settled.{code}
 use Rattle.demands.specs.Renumbering.{SameRings, RenumberThenList, RenumberThenCount}
 use Rattle.demands.proofs.Searches.{encode-words, before-network, lists-rings}
 

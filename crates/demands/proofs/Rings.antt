@@ -15,11 +15,11 @@ use Rattle.graph.proofs.Readings.{reading-shortest, reading-back}
 use Rattle.graph.proofs.Writings.{exactly-one-writing}
 use Rattle.network.specs.Network.{Bonded, IsNetwork}
 use Rattle.network.proofs.Bonds.{bonded-back}
-use Rattle.search.specs.declared.Census.{Census}
-use Rattle.search.specs.Averages.{meanOf}
-use Rattle.search.specs.Census.{limitOf, encode, censusOf, afterCount, afterList}
+use Rattle.census.specs.declared.Census.{Census}
+use Rattle.census.specs.Averages.{meanOf}
+use Rattle.census.specs.Census.{limitOf, encode, censusOf, afterCount, afterList}
 use Rattle.search.proofs.Counts.{count-at}
-use Rattle.search.proofs.Settled.{reached, told-count}
+use Rattle.census.proofs.Settled.{reached, told-count}
 use Rattle.demands.specs.Rings.{RoundIsDistance, StandsOnce, StandExactly, Numbers, Tells, AcceptedListing, AcceptedCount}
 use Rattle.demands.proofs.Searches.{encode-words, words-lengths, reached-network, lists-rings}
 

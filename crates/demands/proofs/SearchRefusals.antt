@@ -15,10 +15,10 @@ use Rattle.network.specs.Maxima.{places}
 use Rattle.network.specs.Verdict.{accepted, refusal, check}
 use Rattle.network.specs.FirstFault.{NamesFirst, AtPlace}
 use Rattle.ring.specs.Maxima.{ringLeast, ringMost, allowanceMost}
-use Rattle.search.specs.declared.Census.{Census}
-use Rattle.search.specs.Census.{notLimit, notAllowance, beforeSearch, encode, noCensus, afterCount, afterList, settled, Outcome, CountOutcome, ListOutcome}
-use Rattle.search.proofs.Passed.{limit-given, Passed, reached-exactly}
-use Rattle.search.proofs.Settled.{code}
+use Rattle.census.specs.declared.Census.{Census}
+use Rattle.census.specs.Census.{notLimit, notAllowance, beforeSearch, encode, noCensus, afterCount, afterList, settled, Outcome, CountOutcome, ListOutcome}
+use Rattle.census.proofs.Passed.{limit-given, Passed, reached-exactly}
+use Rattle.census.proofs.Settled.{code}
 use Rattle.demands.specs.Refusals.{Says, Check, Table, OfRings, Accepted, RightLimit, RightAllowance, SearchSays, CountSays, ListSays}
 use Rattle.demands.specs.Calls.{AfterSearch}
 use Rattle.demands.proofs.Chains.{check-says, in-range, range-true, range-false, check-atoms, check-long, check-most, table-says}

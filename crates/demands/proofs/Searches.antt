@@ -13,10 +13,10 @@ use Rattle.network.specs.Network.{Bonded, IsNetwork}
 use Rattle.network.specs.Verdict.{check, notLong, accepted}
 use Rattle.network.proofs.Verdicts.{atoms, long}
 use Rattle.network.proofs.Networks.{faultless-of}
-use Rattle.search.specs.declared.Census.{Census}
-use Rattle.search.specs.Census.{limitOf, notLimit, notAllowance, beforeSearch, encode, censusOf, Outcome, ListOutcome}
-use Rattle.search.proofs.Passed.{reached-exactly}
-use Rattle.search.proofs.Settled.{code, unrefused, reached, told-list}
+use Rattle.census.specs.declared.Census.{Census}
+use Rattle.census.specs.Census.{limitOf, notLimit, notAllowance, beforeSearch, encode, censusOf, Outcome, ListOutcome}
+use Rattle.census.proofs.Passed.{reached-exactly}
+use Rattle.census.proofs.Settled.{code, unrefused, reached, told-list}
 
 -- a list takes a word for each ring's length, and its atoms
 pub encode-words : (rings : List (List ℕ)) → length (encode rings) ≡ wordsOf rings

@@ -23,8 +23,8 @@ use Rattle.candidate.specs.declared.Tested.{Tested}
 use Rattle.ring.specs.Maxima.{ringMost}
 use Rattle.candidate.specs.CandidateOutcome.{values, CandidateOutcome}
 use Rattle.candidate.specs.CandidateOutcome as candidate
-use Rattle.search.specs.declared.Census.{Census}
-use Rattle.search.specs.Census.{encode, noCensus, CountOutcome, ListOutcome}
+use Rattle.census.specs.declared.Census.{Census}
+use Rattle.census.specs.Census.{encode, noCensus, CountOutcome, ListOutcome}
 use Rattle.renumber.specs.Outcome.{Renumbered}
 use Rattle.renumber.specs.Outcome as renumber
 use Rattle.bnw.specs.declared.Reading.{Reading}

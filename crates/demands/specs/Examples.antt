@@ -11,8 +11,8 @@ use lib.ListN.{length, drop}
 use Rattle.graph.specs.Lists.{_∈_}
 use Rattle.examples.specs.Examples.{Example, tableOf, AllHold, examples}
 use Rattle.ring.specs.Maxima.{allowanceMost}
-use Rattle.search.specs.declared.Census.{Census}
-use Rattle.search.specs.Census.{encode, censusOf, ListOutcome}
+use Rattle.census.specs.declared.Census.{Census}
+use Rattle.census.specs.Census.{encode, censusOf, ListOutcome}
 
 abbrev pub ExamplesHold : Type 0
 ExamplesHold = AllHold examples

@@ -23,7 +23,7 @@ use Rattle.network.specs.Verdict.{answer, accepted, refusal}
 use Rattle.network.specs.FirstFault.{NamesFirst}
 use Rattle.ring.specs.Maxima.{ringLeast, ringMost, allowanceMost}
 use Rattle.ring.specs.FirstPlaces.{Sized, NotAtom, Repeated, Unbonded}
-use Rattle.search.specs.Census.{limitOf}
+use Rattle.census.specs.Census.{limitOf}
 use Rattle.renumber.specs.Names.{BadName}
 use Rattle.bnw.specs.File.{fileOf, bondsOf}
 

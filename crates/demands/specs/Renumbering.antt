@@ -15,8 +15,8 @@ use Rattle.network.specs.declared.Answer.{Answer}
 use Rattle.network.specs.Network.{Bonded}
 use Rattle.renumber.specs.Outcome as renumber
 use Rattle.renumber.specs.Carried.{CarriedTo}
-use Rattle.search.specs.declared.Census.{Census}
-use Rattle.search.specs.Census.{limitOf, encode, CountOutcome, ListOutcome}
+use Rattle.census.specs.declared.Census.{Census}
+use Rattle.census.specs.Census.{limitOf, encode, CountOutcome, ListOutcome}
 
 pub record SameRings (names : List ℕ) (limit : ℕ) (t after l l′ m m′ : List ℕ) : Type 0 where
   pub xs : List (List ℕ)

@@ -20,9 +20,9 @@ use Rattle.graph.specs.Listing.{Before}
 use Rattle.graph.specs.Counts.{ofLength, sumOf, wordsOf}
 use Rattle.network.specs.Network.{Bonded}
 use Rattle.ring.specs.Maxima.{ringMost}
-use Rattle.search.specs.declared.Census.{Census}
-use Rattle.search.specs.Averages.{quotient, meanOf}
-use Rattle.search.specs.Census.{limitOf, encode, CountOutcome, ListOutcome}
+use Rattle.census.specs.declared.Census.{Census}
+use Rattle.census.specs.Averages.{quotient, meanOf}
+use Rattle.census.specs.Census.{limitOf, encode, CountOutcome, ListOutcome}
 
 abbrev pub RoundIsDistance : List ℕ → List ℕ → Type 0
 RoundIsDistance t r = (i j : ℕ) → i < j → j < length r → Distance (Bonded t) (getD r i 0) (getD r j 0) (around (length r) (j - i))

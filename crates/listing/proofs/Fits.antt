@@ -11,8 +11,8 @@ use lib.Dec.{ltb}
 use lib.ListN.{length, take}
 use lib.Seq.{length-take-le}
 use Rattle.network.specs.Maxima.{atomsMost}
-use Rattle.search.specs.declared.Census.{Census}
-use Rattle.search.specs.Census.{ListOutcome, beforeSearch, afterList, encode, settled}
+use Rattle.census.specs.declared.Census.{Census}
+use Rattle.census.specs.Census.{ListOutcome, beforeSearch, afterList, encode, settled}
 
 pub part-length : (k : ℕ) (l : List ℕ) → k ≤ length l → k ≡ length (take k l)
 part-length k l h = sym (length-take-le k l h)

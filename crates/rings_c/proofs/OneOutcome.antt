@@ -5,8 +5,8 @@ use mathlib.Core.List.{List}
 use Prim.Native.Nat.{ℕ}
 use Rattle.candidate.specs.CandidateOutcome.{CandidateOutcome}
 use Rattle.candidate.proofs.Outcomes as ring
-use Rattle.search.specs.Census.{CountOutcome, ListOutcome}
-use Rattle.search.proofs.OneOutcome as search
+use Rattle.census.specs.Census.{CountOutcome, ListOutcome}
+use Rattle.census.proofs.OneOutcome as search
 use Rattle.bnw.specs.Reading.{Reads}
 use Rattle.bnw.specs.Writing.{Writes}
 use Rattle.bnw.proofs.RoundTrips.{reads-one, writes-one}

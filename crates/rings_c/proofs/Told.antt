@@ -11,9 +11,9 @@ use Rattle.candidate.specs.declared.Shortest.{Shortest}
 use Rattle.candidate.specs.declared.Shortest.the-variants.{Yes, No, Refused}
 use Rattle.candidate.specs.declared.Tested.{Tested}
 use Rattle.candidate.specs.CandidateOutcome.{values, Says, CandidateOutcome}
-use Rattle.search.specs.declared.Mean.{Mean}
-use Rattle.search.specs.declared.Mean.the-variants.{Of, NoRings}
-use Rattle.search.specs.declared.Census.{Census}
+use Rattle.census.specs.declared.Mean.{Mean}
+use Rattle.census.specs.declared.Mean.the-variants.{Of, NoRings}
+use Rattle.census.specs.declared.Census.{Census}
 use Rattle.bnw.specs.declared.Reading.{Reading}
 use Rattle.bnw.specs.declared.Written.{Written}
 use Rattle.rings_c.specs.declared.FlatCensus.{FlatCensus}

@@ -10,10 +10,10 @@ use mathlib.Core.Bool.{Bool, true, false}
 use lib.Ieee.{Float}
 use Rattle.candidate.specs.declared.Tested.{Tested}
 use Rattle.candidate.specs.CandidateOutcome.{values}
-use Rattle.search.specs.declared.Mean.{Mean}
-use Rattle.search.specs.declared.Mean.the-variants.{Of, NoRings}
-use Rattle.search.specs.declared.Census.{Census}
-use Rattle.search.specs.Averages.{plusZero}
+use Rattle.census.specs.declared.Mean.{Mean}
+use Rattle.census.specs.declared.Mean.the-variants.{Of, NoRings}
+use Rattle.census.specs.declared.Census.{Census}
+use Rattle.census.specs.Averages.{plusZero}
 use Rattle.bnw.specs.declared.Reading.{Reading}
 use Rattle.bnw.specs.declared.Written.{Written}
 use Rattle.rings_c.specs.declared.FlatCensus.{FlatCensus}

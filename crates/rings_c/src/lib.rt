@@ -8,7 +8,7 @@ use ring::Ring;
 ghost use mathlib.Core.Path.{_≡_};
 ghost use Rattle.network.specs.Verdict.{verdict};
 ghost use Rattle.candidate.specs.CandidateOutcome.{CandidateOutcome};
-ghost use Rattle.search.specs.Census.{CountOutcome, ListOutcome};
+ghost use Rattle.census.specs.Census.{CountOutcome, ListOutcome};
 ghost use Rattle.bnw.specs.Reading.{Reads};
 ghost use Rattle.bnw.specs.Writing.{Writes};
 ghost use Rattle.distance.specs.Outcome as distance;

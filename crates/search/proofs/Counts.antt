@@ -12,7 +12,7 @@ use Rattle.graph.specs.Lists.{_∈_, count}
 use Rattle.graph.proofs.Lists.{getD-map, length-count, getD-count}
 use Rattle.ring.specs.Maxima.{ringLeast, ringMost}
 use Rattle.graph.specs.Counts.{ofLength}
-use Rattle.search.specs.Census.{countsOf}
+use Rattle.census.specs.Census.{countsOf}
 use Rattle.search.specs.Search.{gatherBelow, ringsOf, ringsUpTo, countsUpTo}
 use Rattle.search.specs.Turn.{mayFollow}
 use Rattle.search.proofs.Below.{gather-elim}

@@ -1,4 +1,4 @@
--- Laws of the search. Read Listed, OneOutcome and Passed; the rest serves them and the functions' proofs.
+-- Laws of the search. Read Listed; the rest serves it and the functions' proofs.
 pub mod Below
 pub mod Paths
 pub mod Rows
@@ -10,8 +10,5 @@ pub mod Members
 pub mod Order
 pub mod Harmless
 pub mod Listed
-pub mod Passed
 pub mod Counts
-pub mod Settled
 pub mod Outcomes
-pub mod OneOutcome

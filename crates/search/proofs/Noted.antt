@@ -11,7 +11,7 @@ use lib.Seq.{sets, length-sets}
 use lib.Dec.{ltb}
 use borrow.Author.Tests.{ltb-true, ltb-false}
 use Rattle.ring.specs.Maxima.{ringLeast}
-use Rattle.search.specs.Census.{encode}
+use Rattle.census.specs.Census.{encode}
 use Rattle.search.specs.State.{State, state, note, wrote, noteAll, none}
 use Rattle.search.specs.Search.{Tests, ringsOf, countsUpTo}
 use Rattle.search.specs.declared.note.Found.{Found}

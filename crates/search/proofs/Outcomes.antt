@@ -14,18 +14,18 @@ use Rattle.network.specs.declared.Answer.{Answer}
 use Rattle.network.specs.Network.{Bonded}
 use Rattle.network.specs.Verdict.{check, refusal, accepted}
 use Rattle.ring.specs.Maxima.{ringLeast, ringMost, allowanceMost}
-use Rattle.search.specs.declared.Census.{Census}
+use Rattle.census.specs.declared.Census.{Census}
 use Rattle.search.specs.declared.grow.Tally.{Tally}
-use Rattle.search.specs.Census.{encode, limitOf, beforeSearch, afterCount, afterList, countsOf, censusWith, censusOf, noCensus, settled, Searched, Outcome, CountOutcome, ListOutcome}
-use Rattle.search.specs.Prepared.{Prepared}
+use Rattle.census.specs.Census.{encode, limitOf, beforeSearch, afterCount, afterList, countsOf, censusWith, censusOf, noCensus, settled, Searched, Outcome, CountOutcome, ListOutcome}
+use Rattle.census.specs.Prepared.{Prepared}
 use Rattle.search.specs.Search.{ringsUpTo}
 use Rattle.search.specs.Turn.{mayFollow}
 use Rattle.search.specs.State.{Fits, Net, Tallied}
-use Rattle.search.proofs.Passed.{Passed, reached-exactly}
+use Rattle.census.proofs.Passed.{Passed, reached-exactly}
 use Rattle.search.proofs.Listed.{right-as-far, the-listing}
 use Rattle.search.proofs.Counts.{counts-all}
 use Rattle.search.proofs.Noted.{too-many, not-many, total, needed, holds}
-use Rattle.search.proofs.Settled.{code, unrefused, reached, told-count}
+use Rattle.census.proofs.Settled.{code, unrefused, reached, told-count}
 
 abbrev number : Answer → ℕ
 number a = a .code

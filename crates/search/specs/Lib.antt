@@ -1,7 +1,4 @@
--- What counting and listing say (Census and Averages), and how the search goes about it (the rest).
-pub mod Averages
-pub mod Census
-pub mod Prepared
+-- How the search goes about it: the rings that it finds (Search), where it turns back (Turn), what it has found so far (State).
 pub mod Search
 pub mod Turn
 pub mod State

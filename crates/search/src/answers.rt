@@ -1,14 +1,13 @@
-// The census of a call, accepted or refused.
-use crate::Census;
-use crate::average;
+// The census of an accepted call.
 use crate::grow::Tally;
+use census::Census;
+use census::average;
 use network::Answer;
-use ring::Ring;
 ghost use mathlib.Core.Path.{_≡_};
 ghost use Prim.Native.Nat.{_≤_};
 ghost use Rattle.network.specs.Network.{Counted};
 ghost use Rattle.ring.specs.Maxima.{allowanceMost};
-ghost use Rattle.search.specs.Census.{censusWith, noCensus};
+ghost use Rattle.census.specs.Census.{censusWith};
 ghost use Rattle.search.specs.State.{Fits};
 
 // What an accepted call says of the rings found.
@@ -29,21 +28,6 @@ pub fn accepted(n: usize, limit: usize, tally: Tally) -> Census
         counts,
         total,
         words,
-        averages,
-    }
-}
-
-// What a refused call says.
-pub fn refused(answer: Answer) -> Census
-    ensures { λ r. ⌜ r ≡ noCensus answer ⌝ }
-{
-    let averages = average::no_averages();
-    Census {
-        answer,
-        limit: 0,
-        counts: [0u32; Ring::LENGTH + 1],
-        total: 0,
-        words: 0,
         averages,
     }
 }

@@ -1,41 +1,14 @@
 // The search for shortest-path rings: counting and listing them.
 mod answers;
-mod average;
-mod checks;
 mod grow;
 mod note;
 mod pairs;
 mod turn;
 
+use census::Census;
+use census::checks;
 use network::Answer;
-use ring::Ring;
-ghost use Rattle.search.specs.Census.{CountOutcome, ListOutcome};
-
-// What counting and listing answer.
-pub struct Census {
-    pub answer: Answer,
-    // The limit used.
-    pub limit: usize,
-    // The number of rings of each length.
-    pub counts: [u32; Ring::LENGTH + 1],
-    // The number of rings.
-    pub total: u32,
-    // The words that their list takes.
-    pub words: usize,
-    pub averages: Averages,
-}
-
-pub struct Averages {
-    // Rings per atom.
-    pub per_atom: f64,
-    pub mean: Mean,
-}
-
-// The mean length of the rings.
-pub enum Mean {
-    Of(f64),
-    NoRings,
-}
+ghost use Rattle.census.specs.Census.{CountOutcome, ListOutcome};
 
 // Counts the shortest-path rings of at most `limit` atoms: refusals 1 to 5, 7 to 11, and 12.
 pub fn count(n: usize, table: &[u16], limit: usize, allowance: usize, dist: &mut [u8]) -> Census
@@ -43,14 +16,14 @@ pub fn count(n: usize, table: &[u16], limit: usize, allowance: usize, dist: &mut
 {
     let prepared = checks::prepare(n, table, limit, allowance, dist);
     if prepared.code != 0 {
-        return answers::refused(prepared);
+        return Census::refused(prepared);
     }
     let used = checks::limit_used(limit);
     let mut scratch = [0u16; 1];
     let tally = grow::each_length(n, table, dist, used, allowance as u32, &mut scratch);
     if tally.found.over {
         let answer = Answer::refused(12);
-        return answers::refused(answer);
+        return Census::refused(answer);
     }
     answers::accepted(n, used, tally)
 }
@@ -72,7 +45,7 @@ pub fn list(
     }
     if list.len() < counted.words {
         let answer = Answer::refused(13);
-        return answers::refused(answer);
+        return Census::refused(answer);
     }
     grow::each_length(n, table, dist, counted.limit, allowance as u32, list);
     counted

@@ -1,11 +1,11 @@
 // Counting and listing: refusals 2, 3, 12 and 13 from both sides, and long cycles.
 use crate::models;
 use crate::say;
+use census::Averages;
+use census::Census;
+use census::Mean;
 use network::Network;
 use ring::Ring;
-use search::Averages;
-use search::Census;
-use search::Mean;
 
 pub fn run(figure: &[u16]) {
     limits(figure);

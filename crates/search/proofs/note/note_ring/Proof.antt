@@ -26,7 +26,8 @@ add-if3-3 : tie.Need-add-if3-3
 add-if3-3 c = search needs
 
 write-ring-requires : tie.Need-write-ring-requires
-write-ring-requires c κs = search needs
+write-ring-requires c κs = let s = c .before .before .before .before .before in
+    (s .pre .0, (s .pre .1 .0, c .before .if3 .taken))
 
 same-length : tie.Need-same-length
 same-length c = search needs

@@ -1,7 +1,7 @@
 use borrow.Author.Needs.{needs}
-use Rattle.search.proofs.Passed.{prepared-1, prepared-2-low, prepared-2-high, prepared-3-low, prepared-3-high, prepared-rest}
-use Rattle.search.proofs.checks.prepare.Statement.{statement}
-use Rattle.search.proofs.checks.prepare.Tie as tie
+use Rattle.census.proofs.Passed.{prepared-1, prepared-2-low, prepared-2-high, prepared-3-low, prepared-3-high, prepared-rest}
+use Rattle.census.proofs.checks.prepare.Statement.{statement}
+use Rattle.census.proofs.checks.prepare.Tie as tie
 
 of-requires : tie.Need-of-requires
 of-requires c κs = search needs

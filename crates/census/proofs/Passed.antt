@@ -16,8 +16,8 @@ use Rattle.distance.specs.Outcome.{distanceVerdict}
 use Rattle.distance.proofs.Outcomes.{accepted-exactly}
 use Rattle.distance.specs.Outcome as distance
 use Rattle.ring.specs.Maxima.{ringLeast, ringMost, limitDefault, allowanceMost}
-use Rattle.search.specs.Census.{limitOf, notLimit, notAllowance, beforeSearch}
-use Rattle.search.specs.Prepared.{Prepared}
+use Rattle.census.specs.Census.{limitOf, notLimit, notAllowance, beforeSearch}
+use Rattle.census.specs.Prepared.{Prepared}
 
 -- the limit and the allowance
 

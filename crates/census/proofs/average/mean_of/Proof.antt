@@ -1,7 +1,7 @@
 use borrow.Author.Tests.{eq-eqb, ne-eqb}
 use borrow.Author.Needs.{needs}
-use Rattle.search.proofs.average.mean_of.Statement.{statement}
-use Rattle.search.proofs.average.mean_of.Tie as tie
+use Rattle.census.proofs.average.mean_of.Statement.{statement}
+use Rattle.census.proofs.average.mean_of.Tie as tie
 
 returns : tie.Need-returns
 returns c = simp (eq-eqb _ _ (c .if1 .taken))

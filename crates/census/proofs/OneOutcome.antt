@@ -1,4 +1,4 @@
--- Counting and listing have one outcome each, and counting answers what listing would.
+-- The checks, counting and listing have one outcome each, and counting answers what listing would.
 use mathlib.Core.Path.{_≡_, refl, sym, _∙_, ap}
 use mathlib.Core.Bool.{Bool, true, false}
 use mathlib.Core.List.{List}
@@ -14,9 +14,10 @@ use Rattle.network.specs.declared.Answer.{Answer}
 use Rattle.network.specs.Network.{Bonded}
 use Rattle.network.specs.Verdict.{check, accepted}
 use Rattle.distance.proofs.Outcomes.{table-unique}
-use Rattle.search.specs.declared.Census.{Census}
-use Rattle.search.specs.Census.{encode, limitOf, beforeSearch, afterCount, afterList, settled, Searched, Outcome, CountOutcome, ListOutcome}
-use Rattle.search.proofs.Settled.{code, unrefused, reached}
+use Rattle.census.specs.declared.Census.{Census}
+use Rattle.census.specs.Census.{encode, limitOf, beforeSearch, afterCount, afterList, settled, Searched, Outcome, CountOutcome, ListOutcome}
+use Rattle.census.specs.Prepared.{Prepared}
+use Rattle.census.proofs.Settled.{code, unrefused, reached}
 
 module _ (n : ℕ) (t : List ℕ) (limit allowance : ℕ) (before : List ℕ) where
   -- two searches of one network find one list of rings, and leave one table
@@ -35,6 +36,18 @@ module _ (n : ℕ) (t : List ℕ) (limit allowance : ℕ) (before : List ℕ) wh
         | yes z ↦ searched-once f g c e alike after after′ (O .searched z) (Q .searched z)
         | no z ↦ (O .refused z .0 ∙ sym (Q .refused z .0), O .refused z .1 ∙ sym (Q .refused z .1))
       ]
+
+  -- one outcome of the checks before the search
+  pub prepared-once : (after after′ : List ℕ) (a b : Answer) → Prepared n t limit allowance before after a → Prepared n t limit allowance before after′ b → (a ≡ b) × (after ≡ after′)
+  prepared-once after after′ a b P Q =
+      let same : a ≡ b = P .answer ∙ sym (Q .answer) in
+      let number = ap (λ (x : Answer). x .code) same in (
+        same,
+        elim (ℕ-discrete (a .code) 0) [
+          | yes z ↦ table-unique n t after after′ (P .filled z) (Q .filled (sym number ∙ z))
+          | no z ↦ P .refused z ∙ sym (Q .refused (λ y. z (number ∙ y)))
+        ],
+      )
 
   -- one outcome of counting
   pub count-once : (after after′ : List ℕ) (c e : Census) → CountOutcome n t limit allowance before after c → CountOutcome n t limit allowance before after′ e → (c ≡ e) × (after ≡ after′)

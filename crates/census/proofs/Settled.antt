@@ -10,8 +10,8 @@ use lib.ListN.{length}
 use borrow.Author.Tests.{ltb-false}
 use Rattle.network.specs.declared.Answer.{Answer}
 use Rattle.network.specs.Verdict.{check, accepted}
-use Rattle.search.specs.declared.Census.{Census}
-use Rattle.search.specs.Census.{encode, beforeSearch, censusOf, afterCount, afterList, settled, Searched, Outcome}
+use Rattle.census.specs.declared.Census.{Census}
+use Rattle.census.specs.Census.{encode, beforeSearch, censusOf, afterCount, afterList, settled, Searched, Outcome}
 
 abbrev pub code : Census → ℕ
 code c = c .answer .code

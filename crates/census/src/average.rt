@@ -2,7 +2,7 @@
 use crate::Averages;
 use crate::Mean;
 ghost use mathlib.Core.Path.{_≡_};
-ghost use Rattle.search.specs.Averages.{quotient, meanOf, averagesOf, noAverages};
+ghost use Rattle.census.specs.Averages.{quotient, meanOf, averagesOf, noAverages};
 
 // Rings per atom, and the mean length of `total` rings whose lengths add up to `lengths`.
 pub fn averages_of(n: u32, total: u32, lengths: u32) -> Averages

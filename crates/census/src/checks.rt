@@ -3,8 +3,8 @@ use network::Answer;
 use network::Network;
 use ring::Ring;
 ghost use mathlib.Core.Path.{_≡_};
-ghost use Rattle.search.specs.Census.{limitOf};
-ghost use Rattle.search.specs.Prepared.{Prepared};
+ghost use Rattle.census.specs.Census.{limitOf};
+ghost use Rattle.census.specs.Prepared.{Prepared};
 
 // Refusals 1 to 5 and 7 to 11; where there is none, the distance buffer is filled.
 pub fn prepare(n: usize, table: &[u16], limit: usize, allowance: usize, dist: &mut [u8]) -> Answer

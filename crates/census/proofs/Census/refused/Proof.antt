@@ -1,6 +1,6 @@
 use borrow.Author.Needs.{needs}
-use Rattle.search.proofs.answers.refused.Statement.{statement}
-use Rattle.search.proofs.answers.refused.Tie as tie
+use Rattle.census.proofs.Census.refused.Statement.{statement}
+use Rattle.census.proofs.Census.refused.Tie as tie
 
 no-averages-requires : tie.Need-no-averages-requires
 no-averages-requires c κs = search needs

@@ -1,6 +1,6 @@
 use borrow.Author.Needs.{needs}
-use Rattle.search.proofs.average.averages_of.Statement.{statement}
-use Rattle.search.proofs.average.averages_of.Tie as tie
+use Rattle.census.proofs.average.averages_of.Statement.{statement}
+use Rattle.census.proofs.average.averages_of.Tie as tie
 
 quotient-requires : tie.Need-quotient-requires
 quotient-requires c κs = search needs

@@ -11,9 +11,9 @@ use lib.IntN.{pos}
 use lib.Ieee as Ieee
 use lib.Ieee.{Float, binary64}
 use lib.Dec.{eqb}
-use Rattle.search.specs.declared.Averages.{Averages}
-use Rattle.search.specs.declared.Mean.{Mean}
-use Rattle.search.specs.declared.Mean.the-variants.{Of, NoRings}
+use Rattle.census.specs.declared.Averages.{Averages}
+use Rattle.census.specs.declared.Mean.{Mean}
+use Rattle.census.specs.declared.Mean.the-variants.{Of, NoRings}
 
 abbrev pub quotient : ℕ → ℕ → Float
 quotient a b = Ieee.div binary64 (Ieee.ofInt binary64 (pos a)) (Ieee.ofInt binary64 (pos b))

@@ -6,7 +6,7 @@ use mathlib.Core.List.{List}
 use Prim.Native.Nat.{ℕ}
 use Rattle.network.specs.declared.Answer.{Answer}
 use Rattle.distance.specs.Distances.{DistanceTable}
-use Rattle.search.specs.Census.{beforeSearch}
+use Rattle.census.specs.Census.{beforeSearch}
 
 pub record Prepared (n : ℕ) (t : List ℕ) (limit allowance : ℕ) (before after : List ℕ) (a : Answer) : Type 0 where
   pub answer : a ≡ beforeSearch n t limit allowance before

@@ -31,8 +31,8 @@ use Rattle.network.specs.Network.{Bonded}
 use Rattle.network.specs.Verdict.{check, notAtoms, notLong, faults, accepted}
 use Rattle.distance.specs.Distances.{DistanceTable}
 use Rattle.ring.specs.Maxima.{ringLeast, ringMost, limitDefault, allowanceMost}
-use Rattle.search.specs.declared.Census.{Census}
-use Rattle.search.specs.Averages.{averagesOf, noAverages}
+use Rattle.census.specs.declared.Census.{Census}
+use Rattle.census.specs.Averages.{averagesOf, noAverages}
 
 unfoldable pub limitOf : ℕ → ℕ
 limitOf limit = cond (eqb limit 0) limitDefault limit
