@@ -36,13 +36,13 @@ static double now(void)
     return (double)t.tv_sec * 1e3 + (double)t.tv_nsec / 1e6;
 }
 
-/* The best time of each call: they take turns, five times at least, and more while they are short. */
+/* The best time of each call: they take turns, twelve times at least, and more while they are short. */
 static void best(size_t limit, double least[CALLS], search_answer said[CALLS])
 {
     double sum = 0;
     for (int which = 0; which < CALLS; which++)
         least[which] = 1e30;
-    for (int runs = 0; runs < 5 || (sum < 300 && runs < 200); runs++)
+    for (int runs = 0; runs < 12 || (sum < 300 && runs < 200); runs++)
         for (int which = 0; which < CALLS; which++) {
             double began = now();
             said[which] = run((call)which, limit);
