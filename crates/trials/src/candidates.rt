@@ -13,7 +13,7 @@ pub fn run(figure: &[u16]) {
 
 // 14: the first 2, 3, 24 and 25 atoms of a cycle of 25.
 fn cycle() {
-    let mut table = [Network::FREE; 200];
+    let mut table = [Network::FREE; (Ring::LENGTH + 1) * Network::PLACES];
     models::circle(&mut table, 25, 25, 1);
     lengths(
         &table,
@@ -101,7 +101,7 @@ fn show(n: usize, table: &[u16], ring: &[u16]) {
     let shortest = tested.shortest;
     outcome(shortest);
     let writing = tested.writing;
-    say::words(&writing, 24);
+    say::words(&writing, Ring::LENGTH);
     say::line();
 }
 

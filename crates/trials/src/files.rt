@@ -4,6 +4,9 @@ use crate::say;
 use bnw::Reading;
 use network::Network;
 
+// The words of the greatest table.
+const WORDS: usize = Network::ATOMS * Network::PLACES;
+
 pub fn run(figure: &[u16]) {
     heads();
     atoms();
@@ -17,29 +20,29 @@ pub fn run(figure: &[u16]) {
 
 // 19 to 21: a short file, marks and versions.
 fn heads() {
-    read(b"BNW\x01\x00\x01\x00\x00", 8);
-    head(b'W', 1, 1, 0, 8);
-    head(b'X', 1, 1, 0, 8);
-    head(b'W', 0, 1, 0, 8);
-    head(b'W', 2, 1, 0, 8);
-    head(b'W', 257, 1, 0, 8);
+    read(b"BNW\x01\x00\x01\x00\x00", Network::PLACES);
+    head(b'W', 1, 1, 0, Network::PLACES);
+    head(b'X', 1, 1, 0, Network::PLACES);
+    head(b'W', 0, 1, 0, Network::PLACES);
+    head(b'W', 2, 1, 0, Network::PLACES);
+    head(b'W', 257, 1, 0, Network::PLACES);
 }
 
 // 22: the number of atoms, with its sign.
 fn atoms() {
-    head(b'W', 1, 0, 0, 2000);
-    head(b'W', 1, Network::ATOMS, 0, 2000);
-    head(b'W', 1, Network::ATOMS + 1, 0, 2000);
-    head(b'W', 1, 0xffff, 0, 2000);
-    head(b'W', 1, 0x8000, 0, 2000);
+    head(b'W', 1, 0, 0, WORDS);
+    head(b'W', 1, Network::ATOMS, 0, WORDS);
+    head(b'W', 1, Network::ATOMS + 1, 0, WORDS);
+    head(b'W', 1, 0xffff, 0, WORDS);
+    head(b'W', 1, 0x8000, 0, WORDS);
 }
 
 // 23: the number of bonds, with its sign. The most bonds are a right number, and missing.
 fn bonds() {
-    head(b'W', 1, 2, 0xffff, 2000);
-    head(b'W', 1, 2, 0x8000, 2000);
-    head(b'W', 1, 2, bnw::BONDS, 2000);
-    head(b'W', 1, 2, bnw::BONDS + 1, 2000);
+    head(b'W', 1, 2, 0xffff, WORDS);
+    head(b'W', 1, 2, 0x8000, WORDS);
+    head(b'W', 1, 2, bnw::BONDS, WORDS);
+    head(b'W', 1, 2, bnw::BONDS + 1, WORDS);
 }
 
 // A file that ends after its counts, by the mark's last letter, its version and its counts.
@@ -90,7 +93,7 @@ fn orders() {
 fn two(a: u8, b: u8, c: u8, d: u8) {
     read(
         &[b'B', b'N', b'W', 1, 0, 3, 0, 2, 0, a, 0, b, 0, c, 0, d, 0],
-        24,
+        3 * Network::PLACES,
     );
 }
 
@@ -106,12 +109,12 @@ fn ninth() {
     );
 }
 
-// Reads a file into a table, the first `room` of 2,000 words, and shows 17 of these.
+// Reads a file into a table, the first `room` words of the greatest, and shows 17 of these.
 fn read(file: &[u8], room: usize) {
-    if 2000 < room {
+    if WORDS < room {
         return;
     }
-    let mut table = [9u16; 2000];
+    let mut table = [9u16; WORDS];
     say::named(b"words", room);
     say::text(b", file");
     say::rows(file, file.len());
@@ -171,7 +174,7 @@ fn same(table: &[u16], read: &[u16]) {
 
 // 250 atoms with eight bonds each: 1000 bonds in 4,009 bytes.
 fn greatest() {
-    let mut table = [Network::FREE; 2000];
+    let mut table = [Network::FREE; WORDS];
     models::circle(&mut table, Network::ATOMS, Network::ATOMS, 4);
     let mut file = [0u8; 4010];
     let written = bnw_writer::write(Network::ATOMS, &table, &mut file);
@@ -187,7 +190,7 @@ fn again(file: &[u8], table: &[u16]) {
     if file.len() < 4009 {
         return;
     }
-    let mut read = [0u16; 2000];
+    let mut read = [0u16; WORDS];
     show(bnw_reader::read(&file[..4009], &mut read));
     same(table, &read);
 }

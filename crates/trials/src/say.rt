@@ -1,6 +1,7 @@
 // Printing: a case's name, then its numbers.
 use libc::STDOUT_FILENO;
 use network::Answer;
+use network::Network;
 
 pub fn text(words: &[u8]) {
     io::write_all(STDOUT_FILENO, words);
@@ -49,9 +50,9 @@ pub fn wide(x: u8) -> usize {
     x as usize
 }
 
-// A word of a table or a list, a stroke for 65535, which is a free place.
+// A word of a table or a list, a stroke for a free place.
 fn word(x: u16) {
-    if x == 65535 {
+    if x == Network::FREE {
         text(b" -");
     } else {
         number(x as usize);

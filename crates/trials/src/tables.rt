@@ -52,7 +52,7 @@ fn rows(n: usize, a: u16, b: u16, c: u16, d: u16, e: u16, f: u16) {
     if 3 < n {
         return;
     }
-    let mut table = [Network::FREE; 24];
+    let mut table = [Network::FREE; 3 * Network::PLACES];
     table[0] = a;
     table[1] = b;
     table[2] = c;
@@ -60,7 +60,7 @@ fn rows(n: usize, a: u16, b: u16, c: u16, d: u16, e: u16, f: u16) {
     table[9] = e;
     table[16] = f;
     say::text(b"rows");
-    say::words(&table, 24);
+    say::words(&table, 3 * Network::PLACES);
     say::text(b", ");
     judge(n, &table, n * Network::PLACES);
 }
