@@ -14,3 +14,4 @@ pub mod Returns
 pub mod Accepted
 pub mod RoundTrips
 pub mod FirstBonds
+pub mod Longer

@@ -38,10 +38,10 @@ abbrev code : Answer → ℕ
 code a = a .code
 
 -- the file gives its atoms and its bonds
-file-atoms : (n m : ℕ) (bonds more : List Bond) → fileOf n bonds ≡ fileOf m more → n ≡ m
+pub file-atoms : (n m : ℕ) (bonds more : List Bond) → fileOf n bonds ≡ fileOf m more → n ≡ m
 file-atoms n m bonds more e = sym (atoms-field n bonds) ∙ ap (λ (file : List ℕ). field file 5) e ∙ atoms-field m more
 
-file-bonds : (n m : ℕ) (bonds more : List Bond) → fileOf n bonds ≡ fileOf m more → bonds ≡ more
+pub file-bonds : (n m : ℕ) (bonds more : List Bond) → fileOf n bonds ≡ fileOf m more → bonds ≡ more
 file-bonds n m bonds more e =
     sym (bonds-read n bonds) ∙ ap₂ (λ (file : List ℕ) (k : ℕ). bondsBelow (bondIn file) k) e (sym (bonds-field n bonds) ∙ ap (λ (file : List ℕ). field file 7) e ∙ bonds-field m more) ∙ bonds-read m more
 
@@ -50,7 +50,7 @@ module _ (file before after : List ℕ) (r : Reading) (R : Reads file before aft
   abbrev read-as : ReadsAs file before after r
   read-as = R .accepts z
 
-  table-is : take (places * r .atoms) after ≡ tableOf (r .atoms) (read-as .list)
+  pub table-is : take (places * r .atoms) after ≡ tableOf (r .atoms) (read-as .list)
   table-is =
       ap (take (places * r .atoms)) (read-as .filled)
       ∙ take-at (tableOf (r .atoms) (read-as .list)) (drop (places * r .atoms) before) (places * r .atoms) (table-length (read-as .list) (read-as .valid .eight) (r .atoms))

@@ -2,3 +2,4 @@
 pub mod Pages
 pub mod Texts
 pub mod Spelled
+pub mod Lengths

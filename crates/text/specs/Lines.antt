@@ -1,15 +1,22 @@
 -- The lines of a listing, as bytes (document 01, "The network file").
 --
 --   digits left n          the decimal digits of n, at most `left` of them
+--   digitsMost             the most digits of a number of the machine
 --   number n               n in decimal
 --   valueOf v ds           the number that the digits ds spell after v
+--   space, newline         the bytes between numbers, and at the end of a line
+--   atomsName, bondsName, ringName, countName, totalName, refusedName    the names before the numbers
 --   sizesText n bonds      the line `atoms 7 bonds 9`
 --   ringText r             the line `ring 3 3 5 6`: length and atoms
---   wordsText left ws      the lines of the list's words ws, where `left` atoms of the present ring are to come
---   countsText k cs        the line `count 3 1` for each of the counts cs, from length k on, that is not 0
+--   countText k rings      the line `count 3 1`: a length and its number of rings; nothing where there are none
+--   countsText k cs        these lines for all of the counts cs, from length k on
 --   totalText rings        the line `total 4`
---   listingText ..         the whole listing
---   refusalText a          the line `refused 22 0 0`
+--   refusalText a          the line `refused 22 0 0`: number, row and place
+--   leftAfter left w       the atoms of the present ring that are to come after the word w, where `left` were before it
+--   endText left           the end of the line, where no atom is to come
+--   wordText left w        the word w: a length begins a line, and the last atom ends it
+--   wordsText left ws      the lines of a list's words ws, where `left` atoms of the present ring are to come
+--   listingText ..         a listing: atoms and bonds, the words of the list, the counts by length, the total
 use mathlib.Core.Bool.{cond}
 use mathlib.Core.List.{List, [], _∷_, _++_}
 use Prim.Native.Nat.{ℕ, zero, suc, _+_, _-_, _*_, _/_, _%_}
@@ -17,6 +24,7 @@ use lib.Dec.{ltb, eqb}
 use lib.ListN.{length}
 use Rattle.graph.specs.Lists.{gather}
 use Rattle.network.specs.declared.Answer.{Answer}
+use Rattle.text.specs.Letters.{letters}
 
 -- 48 is the digit 0
 unfoldable pub digits : ℕ → ℕ → List ℕ
@@ -34,29 +42,28 @@ valueOf v [] = v
 valueOf v (d ∷ ds) = valueOf (v * 10 + (d - 48)) ds
 
 abbrev pub space : List ℕ
-space = 32 ∷ []
+space = letters " "
 
 abbrev pub newline : List ℕ
-newline = 10 ∷ []
+newline = letters "\n"
 
--- `atoms `, ` bonds `, `ring `, `count `, `total `, `refused `
 abbrev pub atomsName : List ℕ
-atomsName = 97 ∷ 116 ∷ 111 ∷ 109 ∷ 115 ∷ 32 ∷ []
+atomsName = letters "atoms "
 
 abbrev pub bondsName : List ℕ
-bondsName = 32 ∷ 98 ∷ 111 ∷ 110 ∷ 100 ∷ 115 ∷ 32 ∷ []
+bondsName = letters " bonds "
 
 abbrev pub ringName : List ℕ
-ringName = 114 ∷ 105 ∷ 110 ∷ 103 ∷ 32 ∷ []
+ringName = letters "ring "
 
 abbrev pub countName : List ℕ
-countName = 99 ∷ 111 ∷ 117 ∷ 110 ∷ 116 ∷ 32 ∷ []
+countName = letters "count "
 
 abbrev pub totalName : List ℕ
-totalName = 116 ∷ 111 ∷ 116 ∷ 97 ∷ 108 ∷ 32 ∷ []
+totalName = letters "total "
 
 abbrev pub refusedName : List ℕ
-refusedName = 114 ∷ 101 ∷ 102 ∷ 117 ∷ 115 ∷ 101 ∷ 100 ∷ 32 ∷ []
+refusedName = letters "refused "
 
 unfoldable pub sizesText : ℕ → ℕ → List ℕ
 sizesText n bonds = (atomsName ++ number n) ++ ((bondsName ++ number bonds) ++ newline)

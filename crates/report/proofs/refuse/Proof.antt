@@ -1,7 +1,7 @@
-use Rattle.text.proofs.Pages.{pen-inside}
 use borrow.Author.Needs.{needs}
-use Rattle.listing.proofs.refuse.Statement.{statement}
-use Rattle.listing.proofs.refuse.Tie as tie
+use Rattle.report.proofs.Texts.{refusal-stands}
+use Rattle.report.proofs.refuse.Statement.{statement}
+use Rattle.report.proofs.refuse.Tie as tie
 
 refusal-requires : tie.Need-refusal-requires
 refusal-requires c κs = search needs
@@ -10,7 +10,7 @@ same-length : tie.Need-same-length
 same-length c = search needs
 
 returns : tie.Need-returns
-returns c = pen-inside _ _ _ _ (c .before .before .refusal .ensures)
+returns c = refusal-stands _ _ _ _ (c .before .before .before .before .before .pre) (c .before .before .refusal .ensures)
 
 pub refuse-spec : {M : Type 1} → statement M
 refuse-spec = tie.close (tie.spec refusal-requires same-length returns)

@@ -1,2 +1,0 @@
--- Laws that the program rests on.
-pub mod Fits

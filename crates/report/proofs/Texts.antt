@@ -1,0 +1,147 @@
+-- What stands on the page is the text of the file, at each way through the calls.
+use mathlib.Core.Path.{_≡_, refl, sym, _∙_, ap, ap₂, subst}
+use mathlib.Core.List.{List, [], _∷_, _++_}
+use Prim.Native.Nat.{ℕ, _*_, _≤_, _<_}
+use native.Mathlib.Omega.{arith}
+use borrow.Author.Tests.{eq-eqb, ne-eqb, le-ltb}
+use lib.ListN.{length, take, drop}
+use lib.Seq.{take-at}
+use Rattle.graph.specs.Lists.{_∈_, gather}
+use Rattle.graph.proofs.Lists.{sets-front}
+use Rattle.network.specs.declared.Answer.{Answer}
+use Rattle.network.specs.Maxima.{places}
+use Rattle.network.specs.Network.{Bonded, IsNetwork}
+use Rattle.ring.specs.Maxima.{allowanceMost}
+use Rattle.census.specs.declared.Census.{Census}
+use Rattle.census.specs.Census.{limitOf, encode, countsOf, censusOf, afterList, Searched, ListOutcome}
+use Rattle.census.proofs.Passed.{limit-default, reached-exactly}
+use Rattle.census.proofs.Settled.{code, told-accepted, told-refused, room-enough}
+use Rattle.bnw.specs.declared.Reading.{Reading}
+use Rattle.bnw.specs.File.{tableOf}
+use Rattle.bnw.specs.Reading.{readVerdict, Reads}
+use Rattle.bnw.proofs.RoundTrips.{table-is}
+use Rattle.text.specs.declared.Pen.{Pen}
+use Rattle.text.specs.Page.{Page, page, start, putAll}
+use Rattle.text.specs.Lines.{ringText, wordsText, sizesText, countsText, totalText, listingText, refusalText}
+use Rattle.text.proofs.Pages.{text-fits}
+use Rattle.text.proofs.Spelled.{rings-text}
+use Rattle.report.specs.Report.{tableWords, listWords, textBytes, ringsText, settledText, ListingText, NetworkText, FileText, Stands, ListsText, Responds}
+use Rattle.report.proofs.Fits.{refusal-fits, listing-text-fits}
+
+-- a text that is written from the first byte on stands there, where it fits
+stood : (text before after : List ℕ) (p : Pen) → page p after ≡ putAll text (page start before) → length text ≤ length before → Stands text before after (p .at)
+stood text before after p h fits =
+    let e = h ∙ text-fits text before fits in
+    record { long = ap (λ (s : Page). s .pen .at) e; front = ap (λ (s : Page). s .bytes) e }
+
+pub refusal-stands : (a : Answer) (before after : List ℕ) (p : Pen) → textBytes ≤ length before → page p after ≡ putAll (refusalText a) (page start before) → Stands (refusalText a) before after (p .at)
+refusal-stands a before after p room h = stood (refusalText a) before after p h (refusal-fits a before room)
+
+-- a ring's line for each ring of the list
+encode-gathers : (rings : List (List ℕ)) → encode rings ≡ gather (λ r. length r ∷ r) rings
+unfolding encode
+encode-gathers [] = refl
+encode-gathers (r ∷ rings) = ap (λ (ws : List ℕ). length r ∷ (r ++ ws)) (encode-gathers rings)
+
+listing-of-rings : (n bonds : ℕ) (rings : List (List ℕ)) → ((r : List ℕ) → r ∈ rings → 0 < length r) → listingText n bonds (encode rings) (countsOf rings) (length rings) ≡ ringsText n bonds rings
+unfolding listingText ringsText
+listing-of-rings n bonds rings some =
+    ap (λ (lines : List ℕ). sizesText n bonds ++ (lines ++ (countsText 0 (countsOf rings) ++ totalText (length rings))))
+    (ap (wordsText 0) (encode-gathers rings) ∙ rings-text rings some)
+
+-- listing a network, where the distances have their room and the list buffer is the program's, gives its text
+module _ (n bonds : ℕ) (t d d′ l l′ : List ℕ) (c : Census) (N : IsNetwork n t) (O : ListOutcome n t 0 allowanceMost d d′ l l′ c) (square : length d ≡ n * n) (words : length l ≡ listWords) where
+  searched : Searched n t 0 (afterList allowanceMost listWords) d′ c
+  searched =
+      rw words at (O .census .searched (reached-exactly n t 0 allowanceMost d .1 (record {
+        network = N;
+        room = square;
+        least = omega (arith, limit-default 0 refl);
+        most = omega (arith, limit-default 0 refl);
+        some = omega arith;
+        bounded = omega arith;
+      })))
+
+  abbrev found : List (List ℕ)
+  found = searched .rings
+
+  abbrev judged : Answer
+  judged = afterList allowanceMost listWords found
+
+  pub text-refused : (code c ≡ 0 → ⊥) → ListingText n bonds t (refusalText (c .answer))
+  text-refused z =
+      let told = told-refused n 0 judged found c (searched .says) z in
+      record {
+        rings = found;
+        listing = searched .listing;
+        says = ap refusalText (told .1) ∙ sym (rw (ne-eqb (judged .code) 0 (told .0)) refl);
+      }
+
+  pub text-listed : code c ≡ 0 → ListingText n bonds t (listingText n bonds (take (c .words) l′) (c .counts) (c .total))
+  text-listed z =
+      let told = told-accepted n 0 judged found c (searched .says) z in
+      let room : length (encode found) ≤ length l = omega (arith, room-enough allowanceMost found listWords (told .0), words) in
+      let words-are : take (c .words) l′ ≡ encode found =
+      ap₂ take (ap (λ (x : Census). x .words) (told .1)) (O .written z found (searched .listing) ∙ sets-front l (encode found) room) ∙ take-at (encode found) (drop (length (encode found)) l) (length (encode found)) refl in
+      record {
+        rings = found;
+        listing = searched .listing;
+        says =
+            ap₂ (λ (ws cs : List ℕ). listingText n bonds ws cs (c .total)) words-are (ap (λ (x : Census). x .counts) (told .1))
+            ∙ ap (λ (x : Census). listingText n bonds (encode found) (countsOf found) (x .total)) (told .1)
+            ∙ listing-of-rings n bonds found (λ r m. omega (arith, searched .listing .sound r m .shortest .ring .three))
+            ∙ sym (rw (eq-eqb (judged .code) 0 (told .0)) refl);
+      }
+
+  module _ (before after : List ℕ) where
+    pub lists-refusal : (bytes : ℕ) → (code c ≡ 0 → ⊥) → Stands (refusalText (c .answer)) before after bytes → ListsText n bonds t before after bytes
+    lists-refusal bytes z S = record { text = refusalText (c .answer); lists = text-refused z; stands = S }
+
+    pub lists-rings : (p : Pen) → code c ≡ 0 → textBytes ≤ length before
+        → page p after ≡ putAll (listingText n bonds (take (c .words) l′) (c .counts) (c .total)) (page start before) → ListsText n bonds t before after (p .at)
+    lists-rings p z room h =
+        let text = listingText n bonds (take (c .words) l′) (c .counts) (c .total) in
+        record {
+          text = text;
+          lists = text-listed z;
+          stands = stood text before after p h (omega (arith, listing-text-fits n bonds t text N (text-listed z), room));
+        }
+
+-- reading a file into a table of the most words, and listing the network that it gives, gives the file's text
+module _ (file table table′ : List ℕ) (r : Reading) (R : Reads file table table′ r) (words : length table ≡ tableWords) where
+  verdict-is : r .answer ≡ readVerdict file tableWords
+  verdict-is = R .verdict ∙ ap (readVerdict file) words
+
+  pub file-refused : (r .answer .code ≡ 0 → ⊥) → FileText file (refusalText (r .answer))
+  file-refused z = record {
+    refused = λ _. ap refusalText verdict-is;
+    accepted = λ y. absurd (z (ap (λ (a : Answer). a .code) verdict-is ∙ y));
+  }
+
+  pub file-listed : (text : List ℕ) → r .answer .code ≡ 0 → ListingText (r .atoms) (r .bonds) (take (places * r .atoms) table′) text → FileText file text
+  file-listed text z L =
+      let A = R .accepts z in
+      record {
+        refused = λ y. absurd (y (sym (ap (λ (a : Answer). a .code) verdict-is) ∙ z));
+        accepted = λ _. record {
+          atoms = r .atoms;
+          bonds = A .list;
+          counted = A .counted;
+          valid = A .valid;
+          format = A .format;
+          lists = subst (λ (m : ℕ). ListingText (r .atoms) m (tableOf (r .atoms) (A .list)) text) (A .number) (subst (λ (t : List ℕ). ListingText (r .atoms) (r .bonds) t text) (table-is file table table′ r R z) L);
+        };
+      }
+
+  module _ (before after : List ℕ) (room : textBytes ≤ length before) where
+    responds : (text : List ℕ) (bytes : ℕ) → FileText file text → Stands text before after bytes → Responds file before after bytes
+    responds text bytes F S = record { short = λ h. absurd (omega arith); written = λ _. (text, F, S) }
+
+    pub responds-refusal : (bytes : ℕ) → (r .answer .code ≡ 0 → ⊥) → Stands (refusalText (r .answer)) before after bytes → Responds file before after bytes
+    responds-refusal bytes z = responds (refusalText (r .answer)) bytes (file-refused z)
+
+    pub responds-network : (bytes : ℕ) → r .answer .code ≡ 0 → ListsText (r .atoms) (r .bonds) (take (places * r .atoms) table′) before after bytes → Responds file before after bytes
+    responds-network bytes z L = responds (L .text) bytes (file-listed (L .text) z (L .lists)) (L .stands)
+
+pub responds-short : (file before : List ℕ) → length before < textBytes → Responds file before before 0
+responds-short file before h = record { short = λ _. (refl, refl); written = λ room. absurd (omega arith) }

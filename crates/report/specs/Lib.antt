@@ -1,0 +1,2 @@
+-- What the listing program prints.
+pub mod Report
