@@ -11,7 +11,7 @@ use Rattle.bnw.specs.File.{fileOf, bondAt, bondsOf, partner, partners, rowOf, t
 use Rattle.bnw.specs.Reading.{signed, outside, marked, headFault, earlier, inside, follows, full, bondFault, bondIn, bondsBelow, orAt, firstBond, readVerdict, readValue}
 
 -- "BNW", version 1, so many atoms, nine bonds
-abbrev file : ℕ → ℕ → List ℕ
+abbrev pub file : ℕ → ℕ → List ℕ
 file low high = 66 ∷ 78 ∷ 87 ∷ 1 ∷ 0 ∷ low ∷ high ∷ 9 ∷ 0 ∷ 0 ∷ 0 ∷ 1 ∷ 0 ∷ 0 ∷ 0 ∷ 4 ∷ 0 ∷ 1 ∷ 0 ∷ 2 ∷ 0 ∷ 1 ∷ 0 ∷ 3 ∷ 0 ∷ 2 ∷ 0 ∷ 5 ∷ 0 ∷ 3 ∷ 0 ∷ 5 ∷ 0 ∷ 3 ∷ 0 ∷ 6 ∷ 0 ∷ 4 ∷ 0 ∷ 5 ∷ 0 ∷ 5 ∷ 0 ∷ 6 ∷ 0 ∷ []
 
 pub figure-1-written : fileOf 7 (bondsOf (Rattle.examples.specs.Examples.tableOf (P2 .rows))) ≡ file 7 0

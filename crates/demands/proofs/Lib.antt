@@ -11,4 +11,5 @@ pub mod Calls
 pub mod Renumbering
 pub mod Examples
 pub mod FigureFile
+pub mod FigureText
 pub mod Demands
