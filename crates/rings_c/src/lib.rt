@@ -11,6 +11,7 @@ ghost use Rattle.candidate.specs.CandidateOutcome.{CandidateOutcome};
 ghost use Rattle.census.specs.Census.{CountOutcome, ListOutcome};
 ghost use Rattle.bnw.specs.Reading.{Reads};
 ghost use Rattle.bnw.specs.Writing.{Writes};
+ghost use Rattle.report.specs.Report.{Responds};
 ghost use Rattle.distance.specs.Outcome as distance;
 ghost use Rattle.renumber.specs.Outcome as renumber;
 ghost use Rattle.rings_c.specs.Flat.{flatCensus, flatCandidate, flatReading, flatWritten, PassedOn};
@@ -155,4 +156,12 @@ pub extern "C" fn rings_write(n: usize, table: &[u16], file: &mut [u8]) -> FlatW
 {
     let written = bnw_writer::write(n, table, file);
     flat::flat_written(written)
+}
+
+// What the listing program prints for a file.
+#[no_mangle]
+pub extern "C" fn rings_report(file: &[u8], out: &mut [u8]) -> usize
+    ensures { λ r. ⌜ Responds (now (file .entry)) (now (out .entry)) (now (out .exit)) r ⌝ }
+{
+    report::respond(file, out)
 }
