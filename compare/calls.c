@@ -58,6 +58,8 @@ void try_list(table_lent t, size_t limit, size_t allowance, size_t dist_len, siz
     rings_census must_be = model_list(t.n, t.words, t.length, limit, allowance, lent_must(&dist), dist_len,
                                       lent_must(&list), list_len);
     same_census("rings_list", &got, &must_be);
+    for (int k = LEAST_LENGTH; k <= MOST_LENGTH; k++)
+        tally.listings_with[k] += must_be.counts[k] > 0;
     lent_check("rings_list", &table);
     lent_check("rings_list", &dist);
     lent_check("rings_list", &list);

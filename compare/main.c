@@ -3,7 +3,8 @@
  *     compare [CASES [SEED]]
  *
  * Case i has the seed SEED + i, so that `compare 1 SEED` runs a single case again. The run ends with status 1 at the
- * first difference, and with status 1 if a run of 1000 cases or more has not given every refusal. */
+ * first difference, and with status 1 if a run of 1000 cases or more has not given every refusal, or not listed rings
+ * of every length. */
 #include "cases.h"
 #include "networks.h"
 #include "random.h"
@@ -29,13 +30,13 @@ static void run_case(uint32_t seed)
     tally.cases++;
 }
 
-/* Whether every refusal was given at least once; names those that were not. */
-static bool every_refusal(void)
+/* Whether all from first to last were met; names those that were not. */
+static bool all_met(const size_t *times, int first, int last, const char *what)
 {
     bool all = true;
-    for (int number = 1; number <= 28; number++)
-        if (tally.refusals[number] == 0) {
-            printf("compare: refusal %d was never given\n", number);
+    for (int i = first; i <= last; i++)
+        if (times[i] == 0) {
+            printf("compare: %s %d was never met\n", what, i);
             all = false;
         }
     return all;
@@ -50,9 +51,11 @@ int main(int argc, char **argv)
         run_case((uint32_t)(seed + i));
     report_tallies();
     if (cases >= MANY) {
-        if (!every_refusal())
+        bool refusals = all_met(tally.refusals, 1, LAST_REFUSAL, "refusal");
+        bool lengths = all_met(tally.listings_with, LEAST_LENGTH, MOST_LENGTH, "in a listing a ring of length");
+        if (!refusals || !lengths)
             return 1;
-        puts("every refusal from 1 to 28 was given");
+        puts("every refusal from 1 to 28 was given, and rings of every length from 3 to 24 were listed");
     }
     printf("compare: %zu cases agree\n", tally.cases);
     return 0;

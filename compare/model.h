@@ -18,6 +18,7 @@ enum {
     MOST_BONDS = 1000,
     HEAD = 9, /* bytes of a file before its bonds */
     BOND = 4, /* bytes of a bond */
+    LAST_REFUSAL = 28,
 };
 
 /* A network: which atoms are bonded, the neighbours of each, and how far apart two atoms are. */

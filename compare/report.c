@@ -78,10 +78,8 @@ void same_census(const char *call, const rings_census *got, const rings_census *
 {
     same_answer(call, &got->answer, &must_be->answer);
     same(call, "limit", (long)got->limit, (long)must_be->limit);
-    for (int k = 0; k < 25; k++) {
+    for (int k = 0; k <= MOST_LENGTH; k++)
         same(call, "a count", got->counts[k], must_be->counts[k]);
-        tally.rings_of_length[k] += must_be->counts[k];
-    }
     same(call, "total", got->total, must_be->total);
     same(call, "words", (long)got->words, (long)must_be->words);
     same_double(call, "per_atom (as bits)", got->per_atom, must_be->per_atom);
@@ -97,7 +95,7 @@ void same_candidate(const char *call, const rings_candidate *got, const rings_ca
     same_bool(call, "yes", &got->yes, must_be->yes);
     same(call, "first", (long)got->first, (long)must_be->first);
     same(call, "second", (long)got->second, (long)must_be->second);
-    for (int i = 0; i < 24; i++)
+    for (int i = 0; i < MOST_LENGTH; i++)
         same(call, "a word of the writing", got->writing[i], must_be->writing[i]);
     tally.candidates++;
 }
@@ -124,11 +122,11 @@ void report_tallies(void)
            tally.tables, tally.files, tally.renumberings, tally.candidates);
     printf("counts and listings %zu, rings compared %zu; networks searched in both of the model's ways %zu\n",
            tally.listings, tally.rings, tally.both_ways);
-    printf("rings by length:");
-    for (int k = 3; k <= 24; k++)
-        printf(" %d:%zu", k, tally.rings_of_length[k]);
+    printf("accepted listings that hold a ring of length");
+    for (int k = LEAST_LENGTH; k <= MOST_LENGTH; k++)
+        printf(" %d:%zu", k, tally.listings_with[k]);
     printf("\ncalls %zu, accepted %zu; refused, by number:", tally.calls, tally.refusals[0]);
-    for (int number = 1; number <= 28; number++)
+    for (int number = 1; number <= LAST_REFUSAL; number++)
         printf(" %d:%zu", number, tally.refusals[number]);
     printf("\n");
 }

@@ -2,13 +2,13 @@
 #ifndef COMPARE_REPORT_H
 #define COMPARE_REPORT_H
 
-#include "libc.h"
+#include "model.h"
 
 /* What a run has compared. */
 typedef struct {
     size_t cases, calls, networks, tables, files, renumberings, candidates, listings, rings, both_ways;
-    size_t refusals[29];      /* by number; 0: accepted */
-    size_t rings_of_length[25];
+    size_t refusals[LAST_REFUSAL + 1];     /* by number; 0: accepted */
+    size_t listings_with[MOST_LENGTH + 1]; /* accepted listings that hold a ring of this length */
 } tallies;
 
 extern tallies tally;
