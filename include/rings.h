@@ -96,7 +96,7 @@ enum rings_refusal {
 /* What every call answers: the code, and for some refusals where the fault lies.
  * 7 to 11: row and place in the table of the first fault. 15 to 17: row 0 and the place in the candidate.
  * 18: row 0 and the place in the names. 26 and 27: row 0 and the bond's number in the file, from 0.
- * Everything else: 0 and 0. In a refused call every other number returned is 0. */
+ * Everything else: 0 and 0. In a refused call every other number returned is 0, but for `value` at 22 and 23. */
 typedef struct {
     uint8_t code;
     size_t row;
@@ -106,22 +106,23 @@ typedef struct {
 /* What counting and listing answer. */
 typedef struct {
     rings_answer answer;
-    size_t limit;        /* the limit used */
-    uint32_t counts[25]; /* counts[k]: the rings of length k */
-    uint32_t total;      /* all rings within the limit */
-    size_t words;        /* the list's length in words: k + 1 for a ring of length k */
-    double per_atom;     /* rings per atom, total / n */
-    bool has_mean;       /* whether there are rings, and so a mean length */
-    double mean;         /* the mean ring length, (words - total) / total; +0.0 without rings */
+    size_t limit;                      /* the limit used */
+    uint32_t counts[RINGS_LENGTH + 1]; /* counts[k]: the rings of length k */
+    uint32_t total;                    /* all rings within the limit */
+    size_t words;                      /* the list's length in words: k + 1 for a ring of length k */
+    double per_atom;                   /* rings per atom, total / n */
+    bool has_mean;                     /* whether there are rings, and so a mean length */
+    double mean;                       /* the mean ring length, (words - total) / total; +0.0 without rings */
 } rings_census;
 
 /* What the test of one candidate answers. */
 typedef struct {
     rings_answer answer;
-    bool yes;             /* whether the candidate is a shortest-path ring */
-    size_t first;         /* where it is not: the first pair of its places, by first and then second, */
-    size_t second;        /*   that is nearer in the network than round the ring; otherwise 0 and 0 */
-    uint16_t writing[24]; /* where it is: its one writing, smallest atom first, second below last, then zeros */
+    bool yes;      /* whether the candidate is a shortest-path ring */
+    size_t first;  /* where it is not: the first pair of its places, by first and then second, */
+    size_t second; /*   that is nearer in the network than round the ring; otherwise 0 and 0 */
+    uint16_t writing[RINGS_LENGTH]; /* where it is: its one writing, smallest atom first, second below last, then
+                                       zeros; otherwise zeros */
 } rings_candidate;
 
 /* What the reader answers. */
