@@ -15,6 +15,8 @@ int main(void)
     static uint8_t dist[RINGS_DISTANCE_BYTES(7)];
 
     rings_reading net = rings_read(file, sizeof file, table, RINGS_TABLE_WORDS(7));
+    if (net.answer.code != RINGS_ACCEPTED)
+        return printf("refused %d\n", net.answer.code), 1;
     rings_census rings = rings_list(net.atoms, table, RINGS_TABLE_WORDS(net.atoms), 0, 100, dist, sizeof dist, list,
                                     RINGS_LIST_WORDS(100));
     if (rings.answer.code != RINGS_ACCEPTED)
