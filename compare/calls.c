@@ -99,3 +99,15 @@ void try_write(table_lent t, size_t file_len)
     lent_check("rings_write", &table);
     lent_check("rings_write", &bytes);
 }
+
+void try_report(const uint8_t *file, size_t file_len, size_t out_len)
+{
+    if (!model_reports(file, file_len))
+        return;
+    lent bytes = lend_copy("file", 1, file_len, file), out = lend("text", 1, out_len);
+    size_t got = rings_report(lent_to(&bytes), file_len, lent_to(&out), out_len);
+    size_t must_be = model_report(file, file_len, lent_must(&out), out_len);
+    same_bytes("rings_report", got, must_be);
+    lent_check("rings_report", &bytes);
+    lent_check("rings_report", &out);
+}

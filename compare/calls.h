@@ -20,5 +20,6 @@ void try_list(table_lent t, size_t limit, size_t allowance, size_t dist_len, siz
 void try_renumber(table_lent t, const uint16_t *names, size_t names_len, size_t renamed_len);
 void try_read(const uint8_t *file, size_t file_len, size_t table_len);
 void try_write(table_lent t, size_t file_len);
+void try_report(const uint8_t *file, size_t file_len, size_t out_len); /* only where the model ends in time */
 
 #endif

@@ -75,6 +75,8 @@ void case_damaged_file(const network *net)
         }
     try_read(file, length, random_once_in(4) ? random_below(ROW * n + 2) : TABLE);
     try_read(file, random_below(12), TABLE);
+    try_report(file, length, RINGS_REPORT_BYTES + random_below(50));
+    try_report(file, length, random_once_in(2) ? RINGS_REPORT_BYTES - 1 : random_below(200));
 }
 
 void case_random_file(void)
@@ -94,4 +96,5 @@ void case_random_file(void)
     if (bonds > 0 && random_once_in(4))
         damage_bond(file, bonds, n);
     try_read(file, HEAD + BOND * bonds, ROW * n + random_below(3));
+    try_report(file, HEAD + BOND * bonds, RINGS_REPORT_BYTES);
 }

@@ -124,7 +124,7 @@ static void try_carried(table_lent t, size_t limit, const ring_list *found)
     try_list((table_lent){t.n, renamed, t.length}, limit, MOST_RINGS, t.n * t.n, fresh->count * (MOST_LENGTH + 1));
 }
 
-/* Writes a network, and reads what the model wrote. */
+/* Writes a network, and reads and reports what the model wrote. */
 static void try_file(table_lent t)
 {
     static uint8_t file[HEAD + BOND * MOST_BONDS];
@@ -136,6 +136,7 @@ static void try_file(table_lent t)
     try_read(file, written.bytes, t.length);
     try_read(file, written.bytes, t.length + random_below(50));
     try_read(file, written.bytes, t.length - 1);
+    try_report(file, written.bytes, RINGS_REPORT_BYTES);
 }
 
 void case_network(const network *net)

@@ -12,6 +12,7 @@
 
 int printf(const char *format, ...);
 int puts(const char *line);
+int snprintf(char *to, size_t bytes, const char *format, ...);
 void *malloc(size_t bytes);
 void *realloc(void *memory, size_t bytes);
 void free(void *memory);

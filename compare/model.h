@@ -106,4 +106,11 @@ rings_answer model_renumber(size_t n, const uint16_t *table, size_t table_len, c
 rings_reading model_read(const uint8_t *file, size_t file_len, uint16_t *table, size_t table_len);
 rings_written model_write(size_t n, const uint16_t *table, size_t table_len, uint8_t *file, size_t file_len);
 
+/* ---- model_text.c: what the listing program prints */
+
+/* Whether the model's search ends in time on the network of a file. */
+bool model_reports(const uint8_t *file, size_t file_len);
+
+size_t model_report(const uint8_t *file, size_t file_len, uint8_t *out, size_t out_len);
+
 #endif

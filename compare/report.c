@@ -116,10 +116,17 @@ void same_written(const char *call, const rings_written *got, const rings_writte
     tally.files++;
 }
 
+void same_bytes(const char *call, size_t got, size_t must_be)
+{
+    same(call, "bytes", (long)got, (long)must_be);
+    tally.calls++;
+    tally.reports++;
+}
+
 void report_tallies(void)
 {
-    printf("networks %zu, other tables %zu, files %zu, renumberings %zu, candidates %zu\n", tally.networks,
-           tally.tables, tally.files, tally.renumberings, tally.candidates);
+    printf("networks %zu, other tables %zu, files %zu, their texts %zu, renumberings %zu, candidates %zu\n",
+           tally.networks, tally.tables, tally.files, tally.reports, tally.renumberings, tally.candidates);
     printf("counts and listings %zu, rings compared %zu; networks searched in both of the model's ways %zu\n",
            tally.listings, tally.rings, tally.both_ways);
     printf("accepted listings that hold a ring of length");

@@ -6,7 +6,7 @@
 
 /* What a run has compared. */
 typedef struct {
-    size_t cases, calls, networks, tables, files, renumberings, candidates, listings, rings, both_ways;
+    size_t cases, calls, networks, tables, files, renumberings, candidates, listings, reports, rings, both_ways;
     size_t refusals[LAST_REFUSAL + 1];     /* by number; 0: accepted */
     size_t listings_with[MOST_LENGTH + 1]; /* accepted listings that hold a ring of this length */
 } tallies;
@@ -31,6 +31,7 @@ void same_census(const char *call, const rings_census *got, const rings_census *
 void same_candidate(const char *call, const rings_candidate *got, const rings_candidate *must_be);
 void same_reading(const char *call, const rings_reading *got, const rings_reading *must_be);
 void same_written(const char *call, const rings_written *got, const rings_written *must_be);
+void same_bytes(const char *call, size_t got, size_t must_be);
 
 /* Prints the tallies. */
 void report_tallies(void);

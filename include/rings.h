@@ -57,6 +57,7 @@ extern "C" {
 #define RINGS_TABLE_WORDS(n) ((size_t)(n) * RINGS_PLACES)           /* a bond table, exactly */
 #define RINGS_DISTANCE_BYTES(n) ((size_t)(n) * (size_t)(n))         /* a distance buffer, exactly */
 #define RINGS_LIST_WORDS(rings) ((size_t)(rings) * (RINGS_LENGTH + 1)) /* enough for that many rings */
+#define RINGS_REPORT_BYTES 165121                                   /* enough for the report of any file */
 #define RINGS_FILE_BYTES(bonds) (9 + (size_t)(bonds) * 4)           /* a network file, exactly */
 
 /* The code of an answer: 0, or the number of the refusal. */
@@ -187,6 +188,13 @@ rings_reading rings_read(const uint8_t *file, size_t file_len, uint16_t *table, 
  * Checks: 1, 4, 7 to 10 place by place, 11, 28. Fills the first `bytes` bytes of file; the rest, and after a
  * refusal all of it, stays as it was. RINGS_FILE_BYTES(RINGS_BONDS) bytes are enough for any network. */
 rings_written rings_write(size_t n, const uint16_t *table, size_t table_len, uint8_t *file, size_t file_len);
+
+/* What the listing program prints for a network file, and its length in bytes: a line `refused CODE ROW PLACE`, or atoms
+ * and bonds, a line for each ring at limit 0, the counts by length, the total. 12 (more than RINGS_ALLOWANCE rings) and 13
+ * (a list of more than 32,768 words) are refused too. No zero byte follows the text.
+ * Fills the first bytes of out; the rest stays as it was. Where out_len is under RINGS_REPORT_BYTES it fills nothing and
+ * answers 0. */
+size_t rings_report(const uint8_t *file, size_t file_len, uint8_t *out, size_t out_len);
 
 #ifdef __cplusplus
 }
