@@ -1,2 +1,2 @@
-// The networks P1 to P11 of document 01, their rings, and the near misses: one table, one theorem about the definitions.
-// There is no code here: the table is in specs/, that it holds in proofs/.
+// The networks P1 to P11 of document 01, their rings and numbers, and the near misses: tables, each with one theorem about the definitions.
+// There is no code here: the tables are in specs/, that they hold in proofs/.
