@@ -1,3 +1,4 @@
 -- Laws of the candidate test.
+pub mod Values
 pub mod ShorterPairs
 pub mod Outcomes

@@ -1,13 +1,11 @@
 -- The outcome of the candidate test at each way through it, and what it means: yes exactly for a shortest-path ring, the same
 -- words for every reading of a ring, and one outcome.
-use mathlib.Core.Path.{_≡_, refl, sym, _∙_, ap, subst}
+use mathlib.Core.Path.{_≡_, refl, sym, _∙_, ap}
 use mathlib.Core.Logic.{_⊎_, inl, inr, _↔_}
-use mathlib.Core.Bool.{true, false}
 use mathlib.Core.List.{List}
 use Prim.Native.Nat.{ℕ, _-_, _≤_, _<_}
 use native.Mathlib.Omega.{arith}
 use native.Mathlib.Decide.{ℕ-discrete, decLt}
-use lib.Dec.{T}
 use lib.ListN.{length, getD, replicate}
 use Rattle.graph.specs.Graph.{around, ShortestPathRing}
 use Rattle.graph.specs.Writing.{Reading}
@@ -27,8 +25,9 @@ use Rattle.ring.specs.Maxima.{ringLeast, ringMost}
 use Rattle.ring.specs.Writes.{padded, Writes}
 use Rattle.ring.specs.CandidateVerdict.{candidateVerdict, AtomsBelow}
 use Rattle.candidate.specs.ShorterPairs.{shortAfter, shortPlace}
-use Rattle.candidate.specs.CandidateOutcome.{values, Shorter, FirstPair, Says, CandidateOutcome}
+use Rattle.candidate.specs.CandidateOutcome.{Values, values, Shorter, FirstPair, Says, CandidateOutcome}
 use Rattle.ring.proofs.CandidateVerdicts.{Accepted, accepted-exactly, ring-atoms}
+use Rattle.candidate.proofs.Values.{number, alike, values-tell}
 use Rattle.candidate.proofs.ShorterPairs.{yes-shortest, no-pair}
 
 abbrev code : Answer → ℕ
@@ -39,7 +38,7 @@ module _ (n : ℕ) (t r before : List ℕ) (a : Answer) (e : a ≡ candidateVerd
   pub out-refused : (c : Tested) → c .answer ≡ a → (a .code ≡ 0 → ⊥) → c .shortest ≡ Refused → c .writing ≡ replicate ringMost 0 → CandidateOutcome n t r before before c
   out-refused c h z s w = record {
     answer = h ∙ e;
-    refused = λ _. (refl, s, w);
+    refused = λ _. (refl, ap values s, w);
     filled = λ y. absurd (z (ap code (sym h) ∙ y));
     says = λ y. absurd (z (ap code (sym h) ∙ y));
   }
@@ -94,25 +93,17 @@ first-unique Bad k i j x y P Q = (same-first, same-second)
 pub writes-unique : (r s v w : List ℕ) → ringLeast ≤ length r → Reading 0 r s → Writes r v → Writes s w → v ≡ w
 writes-unique r s v w l R F G = F .filled ∙ ap padded (writing-unique r (F .writing) (G .writing) (F .reading) (reading-trans 0 r s (G .writing) R (G .reading)) (F .one) (G .one) l) ∙ sym (G .filled)
 
--- which case of the enum has which values
-yes-case : (s : Shortest) → values s .yes ≡ true → s ≡ Yes
-yes-case Yes e = refl
-yes-case (No i j) e = absurd (subst T (sym e) tt)
-yes-case Refused e = absurd (subst T (sym e) tt)
-
-no-case : (s : Shortest) → values s .yes ≡ false → values s .first < values s .second → s ≡ No (values s .first) (values s .second)
-no-case Yes e l = absurd (subst T e tt)
-no-case (No i j) e l = refl
-no-case Refused e l = absurd (omega arith)
-
 -- what a candidate is told is unique
-says-unique : (t r : List ℕ) (s u : Shortest) (v w : List ℕ) → Says t r (values s) v → Says t r (values u) w → (s ≡ u) × (v ≡ w)
-says-unique t r s u v w (inl a) (inl b) = (yes-case s (a .0) ∙ sym (yes-case u (b .0)), writes-unique r r v w (a .3 .ring .three) (reading-self 0 r (omega (arith, a .3 .ring .three))) (a .4) (b .4))
-says-unique t r s u v w (inl a) (inr b) = absurd (not-both t r _ _ (a .3) (b .1))
-says-unique t r s u v w (inr a) (inl b) = absurd (not-both t r _ _ (b .3) (a .1))
-says-unique t r s u v w (inr a) (inr b) =
-    let e = first-unique (Shorter t r) (length r) _ _ _ _ (a .1) (b .1) in
-    (no-case s (a .0) (a .1 .in-order) ∙ ap (λ x. No x (values s .second)) (e .0) ∙ ap (No (values u .first)) (e .1) ∙ sym (no-case u (b .0) (b .1 .in-order)), a .2 ∙ sym (b .2))
+says-unique : (t r : List ℕ) (a b : Values) (v w : List ℕ) → Says t r a v → Says t r b w → (a ≡ b) × (v ≡ w)
+says-unique t r a b v w (inl x) (inl y) = (
+  alike a b (x .0 ∙ sym (y .0)) (x .1 ∙ sym (y .1)) (x .2 ∙ sym (y .2)),
+  writes-unique r r v w (x .3 .ring .three) (reading-self 0 r (omega (arith, x .3 .ring .three))) (x .4) (y .4),
+)
+says-unique t r a b v w (inl x) (inr y) = absurd (not-both t r (b .first) (b .second) (x .3) (y .1))
+says-unique t r a b v w (inr x) (inl y) = absurd (not-both t r (a .first) (a .second) (y .3) (x .1))
+says-unique t r a b v w (inr x) (inr y) =
+    let e = first-unique (Shorter t r) (length r) (a .first) (a .second) (b .first) (b .second) (x .1) (y .1) in
+    (alike a b (x .0 ∙ sym (y .0)) (e .0) (e .1), x .2 ∙ sym (y .2))
 
 -- one outcome
 pub outcome-unique : (n : ℕ) (t r before after after′ : List ℕ) (c c′ : Tested) → CandidateOutcome n t r before after c → CandidateOutcome n t r before after′ c′ → (c ≡ c′) × (after ≡ after′)
@@ -124,13 +115,16 @@ outcome-unique n t r before after after′ c c′ C C′ = go (ℕ-discrete (c .
     tested : Answer → Shortest → List ℕ → Tested
     tested a s w = record { answer = a; shortest = s; writing = w }
 
-    whole : c .shortest ≡ c′ .shortest → c .writing ≡ c′ .writing → c ≡ c′
-    whole s w = ap (λ a. tested a (c .shortest) (c .writing)) same ∙ ap (λ x. tested (c′ .answer) x (c .writing)) s ∙ ap (tested (c′ .answer) (c′ .shortest)) w
+    whole : values (c .shortest) ≡ values (c′ .shortest) → c .writing ≡ c′ .writing → c ≡ c′
+    whole v w =
+        ap (λ a. tested a (c .shortest) (c .writing)) same
+        ∙ ap (λ x. tested (c′ .answer) x (c .writing)) (values-tell (c .shortest) (c′ .shortest) v)
+        ∙ ap (tested (c′ .answer) (c′ .shortest)) w
 
     go : Dec (c .answer .code ≡ 0) → (c ≡ c′) × (after ≡ after′)
     go (yes z) =
         let z′ : c′ .answer .code ≡ 0 = ap code (sym same) ∙ z in
-        let e = says-unique t r (c .shortest) (c′ .shortest) (c .writing) (c′ .writing) (C .says z) (C′ .says z′) in
+        let e = says-unique t r (values (c .shortest)) (values (c′ .shortest)) (c .writing) (c′ .writing) (C .says z) (C′ .says z′) in
         (whole (e .0) (e .1), table-unique n t after after′ (C .filled z) (C′ .filled z′))
     go (no z) =
         let x = C .refused z in
@@ -143,7 +137,7 @@ module _ (n : ℕ) (t r before after : List ℕ) (c : Tested) (C : CandidateOutc
   yes-accepted e =
       elim (ℕ-discrete (c .answer .code) 0) [
         | yes z ↦ z
-        | no z ↦ absurd (subst T (ap (λ s. values s .yes) (sym e ∙ C .refused z .1)) tt)
+        | no z ↦ absurd (omega (arith, ap number (ap values (sym e) ∙ C .refused z .1)))
       ]
 
   yes-says : c .shortest ≡ Yes → ShortestPathRing (Bonded t) 0 r × Writes r (c .writing)
@@ -151,7 +145,7 @@ module _ (n : ℕ) (t r before after : List ℕ) (c : Tested) (C : CandidateOutc
     where
       go : Says t r (values (c .shortest)) (c .writing) → ShortestPathRing (Bonded t) 0 r × Writes r (c .writing)
       go (inl h) = (h .3, h .4)
-      go (inr h) = absurd (subst T (ap (λ s. values s .yes) (sym e) ∙ h .0) tt)
+      go (inr h) = absurd (omega (arith, ap number (ap values (sym e)) ∙ h .0))
 
   accepted-candidate : c .answer .code ≡ 0 → Accepted n t r before
   accepted-candidate z = accepted-exactly n t r before .0 (ap code (sym (C .answer)) ∙ z)
@@ -163,7 +157,7 @@ module _ (n : ℕ) (t r before after : List ℕ) (c : Tested) (C : CandidateOutc
   yes-exactly = (λ e. (accepted-candidate (yes-accepted e), yes-says e .0), λ h. go (h .1) (C .says (candidate-accepted (h .0))))
     where
       go : ShortestPathRing (Bonded t) 0 r → Says t r (values (c .shortest)) (c .writing) → c .shortest ≡ Yes
-      go S (inl h) = yes-case (c .shortest) (h .0)
+      go S (inl h) = values-tell (c .shortest) Yes (alike (values (c .shortest)) (values Yes) (h .0) (h .1) (h .2))
       go S (inr h) = absurd (not-both t r _ _ S (h .1))
 
   -- the words are the one writing: a reading of the candidate, and `OneWriting`

@@ -1,15 +1,16 @@
 -- What comes of testing a candidate: the answer, the outcome, the 24 words, and the distance buffer before and after.
 --
---   Values, values s            the outline's values for each case of the enum: yes or no, and a pair of places
+--   Values                      the outline's values of an outcome: a number that tells the case, and a pair of places
+--   noValues                    those of a refused call, where every number is 0
+--   values s                    the values of each case of the enum: 0 refused, 1 yes, 2 no with its pair of places
 --   Shorter t r i j             the network distance of the atoms at i and j is shorter than their ring distance
 --   FirstPair Bad k i j         i < j < k is the first bad pair of places, by i and then j
 --   Says t r v words            yes: a shortest-path ring, and the words are its one writing;
 --                               no: the first pair that is shorter, and the words are zero
---   CandidateOutcome            refused: not one byte is changed, all else is zero;
+--   CandidateOutcome ..         refused: not one byte is changed, all else is zero;
 --                               not refused: the buffer is the distance table, and what the values say
 use mathlib.Core.Path.{_≡_}
 use mathlib.Core.Logic.{_⊎_}
-use mathlib.Core.Bool.{Bool, true, false}
 use mathlib.Core.List.{List}
 use Prim.Native.Nat.{ℕ, _-_, _<_}
 use lib.ListN.{length, getD, replicate}
@@ -24,14 +25,17 @@ use Rattle.ring.specs.Writes.{Writes}
 use Rattle.ring.specs.CandidateVerdict.{candidateVerdict}
 
 pub record Values : Type 0 where
-  pub yes : Bool
+  pub number : ℕ
   pub first : ℕ
   pub second : ℕ
 
+abbrev pub noValues : Values
+noValues = record { number = 0; first = 0; second = 0 }
+
 abbrev pub values : Shortest → Values
-values Yes = record { yes = true; first = 0; second = 0 }
-values (No i j) = record { yes = false; first = i; second = j }
-values Refused = record { yes = false; first = 0; second = 0 }
+values Refused = noValues
+values Yes = record { number = 1; first = 0; second = 0 }
+values (No i j) = record { number = 2; first = i; second = j }
 
 pub record Shorter (t r : List ℕ) (i j : ℕ) : Type 0 where
   pub bonds : ℕ
@@ -46,11 +50,11 @@ pub record FirstPair (Bad : ℕ → ℕ → Type 0) (k i j : ℕ) : Type 0 where
 
 abbrev pub Says : List ℕ → List ℕ → Values → List ℕ → Type 0
 Says t r v words =
-    ((v .yes ≡ true) × (v .first ≡ 0) × (v .second ≡ 0) × ShortestPathRing (Bonded t) 0 r × Writes r words)
-    ⊎ ((v .yes ≡ false) × FirstPair (Shorter t r) (length r) (v .first) (v .second) × (words ≡ replicate ringMost 0))
+    ((v .number ≡ 1) × (v .first ≡ 0) × (v .second ≡ 0) × ShortestPathRing (Bonded t) 0 r × Writes r words)
+    ⊎ ((v .number ≡ 2) × FirstPair (Shorter t r) (length r) (v .first) (v .second) × (words ≡ replicate ringMost 0))
 
 pub record CandidateOutcome (n : ℕ) (t r before after : List ℕ) (c : Tested) : Type 0 where
   pub answer : c .answer ≡ candidateVerdict n t r before
-  pub refused : (c .answer .code ≡ 0 → ⊥) → (after ≡ before) × (c .shortest ≡ Refused) × (c .writing ≡ replicate ringMost 0)
+  pub refused : (c .answer .code ≡ 0 → ⊥) → (after ≡ before) × (values (c .shortest) ≡ noValues) × (c .writing ≡ replicate ringMost 0)
   pub filled : c .answer .code ≡ 0 → DistanceTable n t after
   pub says : c .answer .code ≡ 0 → Says t r (values (c .shortest)) (c .writing)

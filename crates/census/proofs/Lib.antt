@@ -1,5 +1,7 @@
--- Laws of what counting and listing answer: the checks before the search (Passed), an accepted census (Settled), one outcome of each
--- call (OneOutcome).
+-- Laws of what counting and listing answer: averages by their values (MeanValues), 0 rings per atom (Quotients), the checks before the
+-- search (Passed), an accepted census (Settled), one outcome of each call (OneOutcome).
+pub mod MeanValues
+pub mod Quotients
 pub mod Passed
 pub mod Settled
 pub mod OneOutcome

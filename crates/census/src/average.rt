@@ -2,11 +2,12 @@
 use crate::Averages;
 use crate::Mean;
 ghost use mathlib.Core.Path.{_≡_};
-ghost use Rattle.census.specs.Averages.{quotient, meanOf, averagesOf, noAverages};
+ghost use Rattle.census.specs.Averages.{quotient, meanOf, meanValues, averagesOf, noAverages, AveragesTold};
 
-// Rings per atom, and the mean length of `total` rings whose lengths add up to `lengths`.
+// Rings per atom, and the mean length of `total` rings whose lengths add up to `lengths`. At n = 0, which no network has, rings per
+// atom is the quotient by 0: an infinity, or not a number where there are no rings either.
 pub fn averages_of(n: u32, total: u32, lengths: u32) -> Averages
-    ensures { λ r. ⌜ r ≡ averagesOf n total lengths ⌝ }
+    ensures { λ r. ⌜ AveragesTold (averagesOf n total lengths) r ⌝ }
 {
     let per_atom = quotient(total, n);
     let mean = mean_of(total, lengths);
@@ -15,7 +16,7 @@ pub fn averages_of(n: u32, total: u32, lengths: u32) -> Averages
 
 // What a refused call gives.
 pub fn no_averages() -> Averages
-    ensures { λ r. ⌜ r ≡ noAverages ⌝ }
+    ensures { λ r. ⌜ AveragesTold noAverages r ⌝ }
 {
     Averages {
         per_atom: 0.0,
@@ -23,8 +24,9 @@ pub fn no_averages() -> Averages
     }
 }
 
+// The mean length of the rings, or that there are none.
 fn mean_of(total: u32, lengths: u32) -> Mean
-    ensures { λ r. ⌜ r ≡ meanOf total lengths ⌝ }
+    ensures { λ r. ⌜ meanValues r ≡ meanValues (meanOf total lengths) ⌝ }
 {
     if total == 0 {
         return Mean::NoRings;
@@ -32,6 +34,7 @@ fn mean_of(total: u32, lengths: u32) -> Mean
     Mean::Of(quotient(lengths, total))
 }
 
+// One over the other: both are cast without loss and divided once.
 fn quotient(a: u32, b: u32) -> f64
     ensures { λ r. ⌜ r ≡ quotient a b ⌝ }
 {

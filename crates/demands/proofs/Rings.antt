@@ -16,7 +16,7 @@ use Rattle.graph.proofs.Writings.{exactly-one-writing}
 use Rattle.network.specs.Network.{Bonded, IsNetwork}
 use Rattle.network.proofs.Bonds.{bonded-back}
 use Rattle.census.specs.declared.Census.{Census}
-use Rattle.census.specs.Averages.{meanOf}
+use Rattle.census.specs.Averages.{meanOf, meanValues}
 use Rattle.census.specs.Census.{limitOf, encode, censusOf, afterCount, afterList}
 use Rattle.search.proofs.Counts.{count-at}
 use Rattle.census.proofs.Settled.{reached, told-count}
@@ -75,7 +75,7 @@ numbers n limit rings = record {
   total = refl;
   words = encode-words rings;
   per-atom = refl;
-  mean = ap (meanOf (length rings)) lengths;
+  mean = ap (λ (s : ℕ). meanValues (meanOf (length rings) s)) lengths;
 }
   where
     lengths : length (encode rings) - length rings ≡ sumOf (λ k. k) rings

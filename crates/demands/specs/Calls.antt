@@ -18,7 +18,6 @@ use Rattle.network.specs.Network.{IsNetwork}
 use Rattle.network.specs.Verdict.{verdict}
 use Rattle.distance.specs.Distances.{DistanceTable}
 use Rattle.distance.specs.Outcome as distance
-use Rattle.candidate.specs.declared.Shortest.the-variants.{Refused}
 use Rattle.candidate.specs.declared.Tested.{Tested}
 use Rattle.ring.specs.Maxima.{ringMost}
 use Rattle.candidate.specs.CandidateOutcome.{values, CandidateOutcome}
@@ -61,7 +60,7 @@ abbrev pub Candidate : Type 0
 Candidate =
     (n : ℕ) (t r dist : List ℕ) → Fixed (Tested × List ℕ)
     (λ o. CandidateOutcome n t r dist (o .1) (o .0)) (λ o. o .0 .answer) (CandidateSays n t r dist)
-    (λ o. (o .1 ≡ dist) × (o .0 .shortest ≡ Refused) × (o .0 .writing ≡ replicate ringMost 0))
+    (λ o. (o .1 ≡ dist) × (values (o .0 .shortest) ≡ candidate.noValues) × (o .0 .writing ≡ replicate ringMost 0))
     (λ o. DistanceTable n t (o .1) × candidate.Says t r (values (o .0 .shortest)) (o .0 .writing))
 
 -- at 12 and 13 the distance buffer holds the distance table; at every other refusal it is as it was

@@ -21,7 +21,7 @@ use Rattle.graph.specs.Counts.{ofLength, sumOf, wordsOf}
 use Rattle.network.specs.Network.{Bonded}
 use Rattle.ring.specs.Maxima.{ringMost}
 use Rattle.census.specs.declared.Census.{Census}
-use Rattle.census.specs.Averages.{quotient, meanOf}
+use Rattle.census.specs.Averages.{quotient, meanOf, meanValues}
 use Rattle.census.specs.Census.{limitOf, encode, CountOutcome, ListOutcome}
 
 abbrev pub RoundIsDistance : List ℕ → List ℕ → Type 0
@@ -49,7 +49,7 @@ pub record Numbers (n : ℕ) (rings : List (List ℕ)) (c : Census) : Type 0 whe
   pub words : c .words ≡ wordsOf rings
   -- rings per atom, and their mean length: the sum of the lengths over the number of rings
   pub per-atom : c .averages .«per_atom» ≡ quotient (length rings) n
-  pub mean : c .averages .mean ≡ meanOf (length rings) (sumOf (λ k. k) rings)
+  pub mean : meanValues (c .averages .mean) ≡ meanValues (meanOf (length rings) (sumOf (λ k. k) rings))
 
 pub record Tells (n : ℕ) (t : List ℕ) (limit : ℕ) (c : Census) : Type 0 where
   pub used : c .limit ≡ limitOf limit

@@ -1,24 +1,26 @@
 -- The flat answers lose nothing: from each the answer of the call itself can be told.
-use mathlib.Core.Path.{_≡_, refl, sym, subst}
+use mathlib.Core.Path.{_≡_, refl, sym}
 use mathlib.Core.Logic.{inl, inr}
 use mathlib.Core.Bool.{Bool, true, false}
 use mathlib.Core.List.{List}
 use Prim.Native.Nat.{ℕ, zero, suc}
 use native.Mathlib.Omega.{arith}
-use lib.Dec.{T}
+use lib.Dec.{eqb}
 use lib.Ieee.{Float}
 use Rattle.candidate.specs.declared.Shortest.{Shortest}
 use Rattle.candidate.specs.declared.Shortest.the-variants.{Yes, No, Refused}
 use Rattle.candidate.specs.declared.Tested.{Tested}
 use Rattle.candidate.specs.CandidateOutcome.{values, Says, CandidateOutcome}
+use Rattle.candidate.proofs.Values.{values-tell}
 use Rattle.census.specs.declared.Mean.{Mean}
 use Rattle.census.specs.declared.Mean.the-variants.{Of, NoRings}
 use Rattle.census.specs.declared.Census.{Census}
+use Rattle.census.specs.Averages.{meanValues}
 use Rattle.bnw.specs.declared.Reading.{Reading}
 use Rattle.bnw.specs.declared.Written.{Written}
 use Rattle.rings_c.specs.declared.FlatCensus.{FlatCensus}
 use Rattle.rings_c.specs.declared.FlatCandidate.{FlatCandidate}
-use Rattle.rings_c.specs.Flat.{hasMean, meanValue, flatCensus, flatCandidate, flatReading, flatWritten}
+use Rattle.rings_c.specs.Flat.{flatCensus, flatCandidate, flatReading, flatWritten}
 
 abbrev pub toldMean : Bool → Float → Mean
 toldMean true x = Of x
@@ -34,7 +36,7 @@ toldCensus r = record {
   averages = record { «per_atom» = r .«per_atom»; mean = toldMean (r .«has_mean») (r .mean) };
 }
 
-mean-told : (m : Mean) → toldMean (hasMean m) (meanValue m) ≡ m
+mean-told : (m : Mean) → toldMean (eqb (meanValues m .number) 1) (meanValues m .value) ≡ m
 mean-told (Of x) = refl
 mean-told NoRings = refl
 
@@ -57,10 +59,10 @@ abbrev pub toldTested : FlatCandidate → Tested
 toldTested r = record { answer = r .answer; shortest = toldShortest (r .answer .code) (r .yes) (r .first) (r .second); writing = r .writing }
 
 says-something : (t r words : List ℕ) → Says t r (values Refused) words → ⊥
-says-something t r words (inl a) = subst T (sym (a .0)) tt
-says-something t r words (inr a) = omega (arith, a .1 .in-order)
+says-something t r words (inl a) = omega (arith, a .0)
+says-something t r words (inr a) = omega (arith, a .0)
 
-shortest-told : (code : ℕ) (s : Shortest) → (code ≡ 0 → s ≡ Refused → ⊥) → ((code ≡ 0 → ⊥) → s ≡ Refused) → toldShortest code (values s .yes) (values s .first) (values s .second) ≡ s
+shortest-told : (code : ℕ) (s : Shortest) → (code ≡ 0 → s ≡ Refused → ⊥) → ((code ≡ 0 → ⊥) → s ≡ Refused) → toldShortest code (eqb (values s .number) 1) (values s .first) (values s .second) ≡ s
 shortest-told zero Yes some none = refl
 shortest-told zero (No i j) some none = refl
 shortest-told zero Refused some none = absurd (some refl refl)
@@ -68,4 +70,4 @@ shortest-told (suc code) s some none = sym (none (omega arith))
 
 pub candidate-told : (n : ℕ) (t r before after : List ℕ) (c : Tested) → CandidateOutcome n t r before after c → toldTested (flatCandidate c) ≡ c
 candidate-told n t r before after c O =
-    rw (shortest-told (c .answer .code) (c .shortest) (λ z e. says-something t r (c .writing) (rw e at (O .says z))) (λ z. O .refused z .1))
+    rw (shortest-told (c .answer .code) (c .shortest) (λ z e. says-something t r (c .writing) (rw e at (O .says z))) (λ z. values-tell (c .shortest) Refused (O .refused z .1)))

@@ -1,33 +1,21 @@
 -- The answers as C has them: no enum, but a flag beside the values, which are 0 where the flag says that there are none.
 --
---   hasMean m, meanValue m      whether there is a mean, and which
---   flatCensus c                what counting and listing answer
---   flatCandidate c             what the test of a candidate answers, by the outline's values
+--   flatCensus c                what counting and listing answer: the mean by its values, number 1 where there is one
+--   flatCandidate c             what the test of a candidate answers: by its values, number 1 for yes
 --   flatReading r, flatWritten w    what reading and writing answer
 --   PassedOn flat Contract r    r is the flat form of an answer with this contract
 use mathlib.Core.Path.{_≡_}
-use mathlib.Core.Bool.{Bool, true, false}
-use lib.Ieee.{Float}
+use lib.Dec.{eqb}
 use Rattle.candidate.specs.declared.Tested.{Tested}
 use Rattle.candidate.specs.CandidateOutcome.{values}
-use Rattle.census.specs.declared.Mean.{Mean}
-use Rattle.census.specs.declared.Mean.the-variants.{Of, NoRings}
 use Rattle.census.specs.declared.Census.{Census}
-use Rattle.census.specs.Averages.{plusZero}
+use Rattle.census.specs.Averages.{meanValues}
 use Rattle.bnw.specs.declared.Reading.{Reading}
 use Rattle.bnw.specs.declared.Written.{Written}
 use Rattle.rings_c.specs.declared.FlatCensus.{FlatCensus}
 use Rattle.rings_c.specs.declared.FlatCandidate.{FlatCandidate}
 use Rattle.rings_c.specs.declared.FlatReading.{FlatReading}
 use Rattle.rings_c.specs.declared.FlatWritten.{FlatWritten}
-
-abbrev pub hasMean : Mean → Bool
-hasMean (Of x) = true
-hasMean NoRings = false
-
-abbrev pub meanValue : Mean → Float
-meanValue (Of x) = x
-meanValue NoRings = plusZero
 
 abbrev pub flatCensus : Census → FlatCensus
 flatCensus c = record {
@@ -37,14 +25,14 @@ flatCensus c = record {
   total = c .total;
   words = c .words;
   «per_atom» = c .averages .«per_atom»;
-  «has_mean» = hasMean (c .averages .mean);
-  mean = meanValue (c .averages .mean);
+  «has_mean» = eqb (meanValues (c .averages .mean) .number) 1;
+  mean = meanValues (c .averages .mean) .value;
 }
 
 abbrev pub flatCandidate : Tested → FlatCandidate
 flatCandidate c = record {
   answer = c .answer;
-  yes = values (c .shortest) .yes;
+  yes = eqb (values (c .shortest) .number) 1;
   first = values (c .shortest) .first;
   second = values (c .shortest) .second;
   writing = c .writing;

@@ -10,8 +10,10 @@ use candidate::Tested;
 use census::Census;
 use census::Mean;
 ghost use mathlib.Core.Path.{_≡_};
+ghost use lib.Dec.{eqb};
 ghost use Rattle.candidate.specs.CandidateOutcome.{values};
-ghost use Rattle.rings_c.specs.Flat.{hasMean, meanValue, flatCensus, flatCandidate, flatReading, flatWritten};
+ghost use Rattle.census.specs.Averages.{meanValues};
+ghost use Rattle.rings_c.specs.Flat.{flatCensus, flatCandidate, flatReading, flatWritten};
 
 // What counting and listing answer: the mean with a flag.
 pub fn flat_census(c: Census) -> FlatCensus
@@ -75,7 +77,7 @@ pub fn flat_written(c: Written) -> FlatWritten
 
 // Whether there is a mean.
 fn has_mean(mean: Mean) -> bool
-    ensures { λ r. ⌜ r ≡ hasMean mean ⌝ }
+    ensures { λ r. ⌜ r ≡ eqb (meanValues mean .number) 1 ⌝ }
 {
     match mean {
         Mean::Of(_) => true,
@@ -85,7 +87,7 @@ fn has_mean(mean: Mean) -> bool
 
 // The mean, or 0.
 fn mean_value(mean: Mean) -> f64
-    ensures { λ r. ⌜ r ≡ meanValue mean ⌝ }
+    ensures { λ r. ⌜ r ≡ meanValues mean .value ⌝ }
 {
     match mean {
         Mean::Of(value) => value,
@@ -95,7 +97,7 @@ fn mean_value(mean: Mean) -> f64
 
 // Whether it is a shortest-path ring.
 fn yes(shortest: Shortest) -> bool
-    ensures { λ r. ⌜ r ≡ values shortest .yes ⌝ }
+    ensures { λ r. ⌜ r ≡ eqb (values shortest .number) 1 ⌝ }
 {
     match shortest {
         Shortest::Yes => true,

@@ -1,4 +1,5 @@
 use borrow.Author.Needs.{needs}
+use Rattle.census.proofs.MeanValues.{averages-told}
 use Rattle.search.proofs.answers.accepted.Statement.{statement}
 use Rattle.search.proofs.answers.accepted.Tie as tie
 
@@ -21,7 +22,7 @@ averages-of-requires : tie.Need-averages-of-requires
 averages-of-requires c κs = search needs
 
 returns : tie.Need-returns
-returns c = rw (c .averages-of .ensures, c .before .before .accepted .ensures)
+returns c = rw (averages-told _ _ (c .averages-of .ensures), c .before .before .accepted .ensures)
 
 pub accepted-spec : {M : Type 1} → statement M
 accepted-spec =
