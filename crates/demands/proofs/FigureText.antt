@@ -1,6 +1,6 @@
 -- What the program prints, computed by the checker: document 01's nine lines for the 45 bytes of Fig. 1, and the line of a refusal.
 use mathlib.Core.Path.{_≡_, refl, sym, _∙_, ap, ap₂, subst}
-use mathlib.Core.List.{List, _++_}
+use mathlib.Core.List.{List, List·Memᴰ·head, List·Memᴰ·tail}
 use Prim.Native.Nat.{ℕ, _≤_}
 use native.Mathlib.Omega.{arith}
 use lib.ListN.{length, take, drop}
@@ -10,7 +10,7 @@ use Rattle.network.specs.declared.Answer.{Answer}
 use Rattle.network.specs.Network.{Bonded, IsNetwork}
 use Rattle.network.specs.Verdict.{accepted, refusal}
 use Rattle.network.proofs.Networks.{network-of}
-use Rattle.examples.specs.Examples.{Holds, P2}
+use Rattle.examples.specs.Examples.{ExampleHolds, P2}
 use Rattle.examples.specs.Examples as examples
 use Rattle.examples.proofs.Examples.{examples-hold}
 use Rattle.census.specs.Census.{limitOf, encode, countsOf}
@@ -31,8 +31,8 @@ nineLines = letters "atoms 7 bonds 9\nring 3 3 5 6\nring 4 1 2 5 3\nring 5 0 1 2
 abbrev table : List ℕ
 table = examples.tableOf (P2 .rows)
 
-holds : Holds P2
-holds = examples-hold .1 .0
+holds : ExampleHolds P2
+holds = examples-hold P2 (List·Memᴰ·tail (List·Memᴰ·head refl))
 
 network : IsNetwork 7 table
 network = network-of 7 table (ap (λ (a : Answer). a .code) (holds .is-accepted))
