@@ -12,4 +12,5 @@ pub mod Renumbering
 pub mod Examples
 pub mod FigureFile
 pub mod FigureText
+pub mod Program
 pub mod Demands

@@ -3,6 +3,7 @@ pub mod Refusals
 pub mod FileRefusals
 pub mod Rings
 pub mod Files
+pub mod Program
 pub mod Calls
 pub mod Renumbering
 pub mod Examples

@@ -43,10 +43,11 @@ unfolding encode
 encode-gathers [] = refl
 encode-gathers (r ∷ rings) = ap (λ (ws : List ℕ). length r ∷ (r ++ ws)) (encode-gathers rings)
 
-listing-of-rings : (n bonds : ℕ) (rings : List (List ℕ)) → ((r : List ℕ) → r ∈ rings → 0 < length r) → listingText n bonds (encode rings) (countsOf rings) (length rings) ≡ ringsText n bonds rings
-unfolding listingText ringsText
-listing-of-rings n bonds rings some =
-    ap (λ (lines : List ℕ). sizesText n bonds ++ (lines ++ (countsText 0 (countsOf rings) ++ totalText (length rings))))
+pub listing-of-rings : (n bonds : ℕ) (rings : List (List ℕ)) (counts : List ℕ) (total : ℕ) → ((r : List ℕ) → r ∈ rings → 0 < length r)
+    → listingText n bonds (encode rings) counts total ≡ sizesText n bonds ++ (gather ringText rings ++ (countsText 0 counts ++ totalText total))
+unfolding listingText
+listing-of-rings n bonds rings counts total some =
+    ap (λ (lines : List ℕ). sizesText n bonds ++ (lines ++ (countsText 0 counts ++ totalText total)))
     (ap (wordsText 0) (encode-gathers rings) ∙ rings-text rings some)
 
 -- listing a network, where the distances have their room and the list buffer is the program's, gives its text
@@ -78,6 +79,7 @@ module _ (n bonds : ℕ) (t d d′ l l′ : List ℕ) (c : Census) (N : IsNetwor
       }
 
   pub text-listed : code c ≡ 0 → ListingText n bonds t (listingText n bonds (take (c .words) l′) (c .counts) (c .total))
+  unfolding ringsText
   text-listed z =
       let told = told-accepted n 0 judged found c (searched .says) z in
       let room : length (encode found) ≤ length l = omega (arith, room-enough allowanceMost found listWords (told .0), words) in
@@ -89,7 +91,7 @@ module _ (n bonds : ℕ) (t d d′ l l′ : List ℕ) (c : Census) (N : IsNetwor
         says =
             ap₂ (λ (ws cs : List ℕ). listingText n bonds ws cs (c .total)) words-are (ap (λ (x : Census). x .counts) (told .1))
             ∙ ap (λ (x : Census). listingText n bonds (encode found) (countsOf found) (x .total)) (told .1)
-            ∙ listing-of-rings n bonds found (λ r m. omega (arith, searched .listing .sound r m .shortest .ring .three))
+            ∙ listing-of-rings n bonds found (countsOf found) (length found) (λ r m. omega (arith, searched .listing .sound r m .shortest .ring .three))
             ∙ sym (rw (eq-eqb (judged .code) 0 (told .0)) refl);
       }
 

@@ -1,0 +1,57 @@
+-- What the listing program prints is what reading and listing say.
+use mathlib.Core.Path.{_≡_, refl, _∙_, ap, ap₂}
+use mathlib.Core.List.{List}
+use Prim.Native.Nat.{ℕ, _*_}
+use native.Mathlib.Omega.{arith}
+use lib.ListN.{length, take, drop}
+use lib.Seq.{take-at}
+use Rattle.network.specs.Maxima.{places}
+use Rattle.network.specs.Network.{IsNetwork}
+use Rattle.census.specs.declared.Census.{Census}
+use Rattle.census.specs.Census.{encode}
+use Rattle.bnw.specs.declared.Reading.{Reading}
+use Rattle.bnw.specs.Reading.{Reads}
+use Rattle.bnw.proofs.RoundTrips.{read-network}
+use Rattle.text.specs.Lines.{listingText, refusalText}
+use Rattle.report.specs.Report.{tableWords, FileText}
+use Rattle.report.proofs.Fits.{file-text-fits}
+use Rattle.report.proofs.Texts.{listing-of-rings, text-refused, text-listed, file-refused, file-listed}
+use Rattle.report.proofs.OneText.{file-text-one, enough-is-read}
+use Rattle.demands.specs.Program.{ReadingPrinted, Printed}
+use Rattle.demands.proofs.Searches.{lists-rings}
+
+module _ (file text table table′ : List ℕ) (r : Reading) (F : FileText file text) (R : Reads file table table′ r) (words : length table ≡ tableWords) where
+  -- the file's text is any that reading and listing give
+  same : (other : List ℕ) → FileText file other → text ≡ other
+  same other G = file-text-one file text other F G
+
+  reading-printed : ReadingPrinted file text table table′ r
+  reading-printed = record {
+    refused = λ z. same (refusalText (r .answer)) (file-refused file table table′ r R words z);
+    listed = λ z d d′ l l′ c O square room.
+        let n = r .atoms in
+        let m = r .bonds in
+        let t = take (places * n) table′ in
+        let N : IsNetwork n t = read-network file table table′ r R z in
+        record {
+          refused = λ y. same (refusalText (c .answer)) (file-listed file table table′ r R words (refusalText (c .answer)) z (text-refused n m t d d′ l l′ c N O square room y));
+          listed = λ y.
+              let L = lists-rings n t 0 _ d d′ l l′ c O y in
+              let words-are : take (c .words) l′ ≡ encode (L .rings) =
+              ap₂ take (ap (λ (x : Census). x .words) (L .census)) (L .words) ∙ take-at (encode (L .rings)) (drop (length (encode (L .rings))) l) (length (encode (L .rings))) refl in (
+                L .rings,
+                L .words,
+                same (listingText n m (take (c .words) l′) (c .counts) (c .total)) (file-listed file table table′ r R words (listingText n m (take (c .words) l′) (c .counts) (c .total)) z (text-listed n m t d d′ l l′ c N O square room y))
+                    ∙ ap (λ (ws : List ℕ). listingText n m ws (c .counts) (c .total)) words-are
+                    ∙ listing-of-rings n m (L .rings) (c .counts) (c .total) (λ s i. omega (arith, L .listing .sound s i .shortest .ring .three)),
+              );
+        };
+  }
+
+pub program-printed : Printed
+program-printed = record {
+  says = reading-printed;
+  one = file-text-one;
+  fits = file-text-fits;
+  enough = enough-is-read;
+}
