@@ -1,5 +1,5 @@
 -- The length of a part, of an array whose part was lent, and small squares.
-use mathlib.Core.Path.{_≡_, sym, _∙_, subst}
+use mathlib.Core.Path.{_≡_, sym, _∙_}
 use mathlib.Core.List.{List, _++_}
 use Prim.Native.Nat.{ℕ, _*_, _≤_}
 use native.Mathlib.Nat.{mul-le-mul}
@@ -13,9 +13,6 @@ part-length k l h = sym (length-take-le k l h)
 -- [v; n] with its first k elements back as ys.
 pub whole-length : (n v k : ℕ) (ys : List ℕ) → length ys ≡ length (take k (replicate n v)) → n ≡ length (ys ++ drop k (replicate n v))
 whole-length n v k ys e = sym (same-len k (replicate n v) ys e ∙ length-replicate n v)
-
-pub part-within : (n v k : ℕ) (ys : List ℕ) → k ≤ n → length ys ≡ length (take k (replicate n v)) → k ≤ length (ys ++ drop k (replicate n v))
-part-within n v k ys h e = subst (λ (m : ℕ). k ≤ m) (whole-length n v k ys e) h
 
 pub square : (n : ℕ) → n ≤ 40 → n * n ≤ 1600
 square n h = mul-le-mul h h

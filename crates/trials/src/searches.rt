@@ -25,18 +25,20 @@ fn limits(figure: &[u16]) {
 
 // Fig. 1, which has four rings, at the borders of the allowance.
 fn allowances(figure: &[u16]) {
-    rings(7, figure, 0, 0);
-    rings(7, figure, 0, 3);
-    rings(7, figure, 0, 4);
+    count(figure, 0);
+    count(figure, 3);
+    count(figure, 4);
     rings(7, figure, 0, Ring::ALLOWANCE);
     rings(7, figure, 0, Ring::ALLOWANCE + 1);
 }
 
-// Fig. 1 into too few words, enough, and one more.
+// Fig. 1, whose four rings take 21 words: no ring allowed, too few, too few words, enough of both, and one word more.
 fn rooms(figure: &[u16]) {
-    list(figure, 20);
-    list(figure, 21);
-    list(figure, 22);
+    list(figure, 0, 21);
+    list(figure, 3, 21);
+    list(figure, 4, 20);
+    list(figure, 4, 21);
+    list(figure, 4, 22);
 }
 
 // Cycles as long as a ring may be, and one atom longer. Four atoms at each of ten places have more than a million rings.
@@ -79,19 +81,39 @@ fn ask(n: usize, limit: usize, allowance: usize) {
     say::named(b", allowance", allowance);
 }
 
-// Lists the rings of seven atoms into so many words: the same, and the words with those after them.
-pub fn list(table: &[u16], words: usize) {
+// Counts the rings of seven atoms: the same, and the distances.
+fn count(table: &[u16], allowance: usize) {
+    let mut dist = [9u8; 49];
+    ask(7, 0, allowance);
+    let census = search::count(7, table, 0, allowance, &mut dist);
+    show(census);
+    say::rows(&dist, 7);
+}
+
+// Lists the rings of seven atoms into so many words: the same, and the words with those after them, and the distances.
+pub fn list(table: &[u16], allowance: usize, words: usize) {
     if 23 < words {
         return;
     }
-    let mut dist = [0u8; 49];
+    let mut dist = [9u8; 49];
     let mut list = [9u16; 23];
-    say::named(b"list, words", words);
-    let census = search::list(7, table, 0, 100, &mut dist, &mut list[..words]);
+    ask_list(allowance, words);
+    let census = search::list(7, table, 0, allowance, &mut dist, &mut list[..words]);
     show(census);
+    lent(&list, &dist);
+}
+
+fn ask_list(allowance: usize, words: usize) {
+    say::text(b"list ");
+    ask(7, 0, allowance);
+    say::named(b", words", words);
+}
+
+fn lent(list: &[u16], dist: &[u8]) {
     say::text(b"its words");
-    say::words(&list, 23);
+    say::words(list, list.len());
     say::line();
+    say::rows(dist, 7);
 }
 
 fn show(census: Census) {

@@ -6,11 +6,8 @@ use Rattle.trials.proofs.searches.list.Tie as tie
 returns : tie.Need-returns
 returns c = search needs
 
-slice-aggregate-named : tie.Need-slice-aggregate-named
-slice-aggregate-named c = search needs
-
-named-requires : tie.Need-named-requires
-named-requires c κs = search needs
+ask-list-requires : tie.Need-ask-list-requires
+ask-list-requires c κs = search needs
 
 slice-aggregate-list : tie.Need-slice-aggregate-list
 slice-aggregate-list c = search needs
@@ -27,20 +24,14 @@ list-requires c κs = search needs
 show-requires : tie.Need-show-requires
 show-requires c κs = search needs
 
-slice-aggregate-text : tie.Need-slice-aggregate-text
-slice-aggregate-text c = search needs
+slice-aggregate-lent : tie.Need-slice-aggregate-lent
+slice-aggregate-lent c = whole-length 23 9 (c .before .before .before .before .before .before .before .before .before .before .args .words) (c .before .before .before .before .list2 .last .1 .1 .1 .1 .1 .0) (c .before .before .list3 .given)
 
-text-requires : tie.Need-text-requires
-text-requires c κs = search needs
+slice-aggregate-lent-2 : tie.Need-slice-aggregate-lent-2
+slice-aggregate-lent-2 c = search needs
 
-slice-aggregate-words : tie.Need-slice-aggregate-words
-slice-aggregate-words c = whole-length 23 9 (c .before .before .before .before .before .before .before .before .before .before .before .before .before .args .words) (c .before .before .before .before .before .before .list2 .last .1 .1 .1 .1 .1 .0) (c .before .before .before .before .list3 .given)
-
-words-requires : tie.Need-words-requires
-words-requires c κs = search needs
-
-line-requires : tie.Need-line-requires
-line-requires c κs = search needs
+lent-requires : tie.Need-lent-requires
+lent-requires c κs = search needs
 
 returns-2 : tie.Need-returns-2
 returns-2 c = search needs
@@ -50,16 +41,13 @@ list-spec =
     tie.close
     (tie.spec
     returns
-    slice-aggregate-named
-    named-requires
+    ask-list-requires
     slice-aggregate-list
     array-borrow-prefix-list
     slice-aggregate-list-2
     list-requires
     show-requires
-    slice-aggregate-text
-    text-requires
-    slice-aggregate-words
-    words-requires
-    line-requires
+    slice-aggregate-lent
+    slice-aggregate-lent-2
+    lent-requires
     returns-2)
