@@ -1,6 +1,8 @@
 -- What counting and listing answer, and what they leave in the lent buffers (document 01).
 --
 --   limitOf limit               the limit used: 0 stands for the default
+--   notLimit limit              limit is neither 0 nor 3 to 24
+--   notAllowance allowance      allowance is not 1 to 1,000,000
 --   beforeSearch n t limit allowance d    the refusals that come before the search: 1, 2, 3, 4, 5, then 7 to 11
 --   encode rings                rings as they are listed, one after another: each its length, then its atoms
 --   afterCount allowance rings            12: more rings than the allowance
@@ -10,8 +12,9 @@
 --   censusOf n limit rings      what an accepted call says: every number is a function of the list of rings
 --   noCensus a                  what a call refused with the answer a says: every number is 0
 --   settled n limit a rings     the one or the other, as the answer a has it
---   Outcome ..                  counting or listing: refused before the search, nothing is changed; otherwise the distance buffer holds the
---                               distance table, and the census is that of the listing of the network's shortest-path rings up to the limit
+--   Searched ..                 the distance buffer holds the distance table, and the census is that of the listing of the network's
+--                               shortest-path rings up to the limit
+--   Outcome ..                  counting or listing: refused before the search, nothing is changed; otherwise it is searched
 --   CountOutcome ..             what comes of counting
 --   ListOutcome ..              what comes of listing: accepted, the words of the rings stand at the front of the list buffer, whose rest stays;
 --                               refused, it stays as it is

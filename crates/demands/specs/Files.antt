@@ -1,6 +1,7 @@
 -- Demand 2, of files. An accepted file, read and written again, gives the same bytes;
 -- an accepted network, written and read again, gives the same network.
 --
+--   rowsRead r after  the rows that a reading has filled
 --   ReadThenWrite     what an accepted reading leaves is a network; writing it, where the bytes lent have room, is accepted and gives the file
 --   WriteThenRead     reading what an accepted writing wrote, where the table lent has room, is accepted and gives the network
 use mathlib.Core.Path.{_≡_}
@@ -14,7 +15,6 @@ use Rattle.bnw.specs.declared.Written.{Written}
 use Rattle.bnw.specs.Reading.{Reads}
 use Rattle.bnw.specs.Writing.{Writes}
 
--- the rows that a reading has filled
 abbrev pub rowsRead : Reading → List ℕ → List ℕ
 rowsRead r after = take (places * r .atoms) after
 

@@ -1,14 +1,18 @@
 -- Demand 1, the answers. Bad input gets a numbered refusal, exactly when the outline says, naming the first fault.
 -- The answers that a call may give are a chain of its checks, in the order in which they are made.
 --
+--   Says                        what a chain says: which answers may be given
 --   OneAnswer Gives             the chain gives no two answers
 --   Check c Right Later a       c where the input is not right; else it is right, and what comes later says
 --   Table n t Later a           the first of 7 to 11 in the table; else it is the table of a network, and what comes later says
 --   Places c Bad k Later a      c at row 0 and the first bad of k places; else none is bad, and what comes later says
 --   OfRings t limit Later a     what comes later says it of the listing of the network's rings
 --   Accepted a                  accepted: 0 at row 0, place 0
+--   RightLimit limit            0, or 3 to 24
+--   RightAllowance allowance    1 to 1,000,000
 --
 --   ValidateSays, DistancesSays, CandidateSays, CountSays, ListSays, RenumberSays, WriteSays    the answers of each call
+--   SearchSays .. Later         the checks that counting and listing make before the search, and then what comes later says
 use mathlib.Core.Path.{_≡_}
 use mathlib.Core.Logic.{_⊎_}
 use mathlib.Core.List.{List}
@@ -50,14 +54,12 @@ OfRings t limit Later a = (rings : List (List ℕ)) × RingListing (Bonded t) (l
 abbrev pub Accepted : Says
 Accepted a = a ≡ accepted
 
--- the right inputs of the numbered checks
 abbrev pub RightLimit : ℕ → Type 0
 RightLimit limit = (limit ≡ 0) ⊎ ((ringLeast ≤ limit) × (limit ≤ ringMost))
 
 abbrev pub RightAllowance : ℕ → Type 0
 RightAllowance allowance = (1 ≤ allowance) × (allowance ≤ allowanceMost)
 
--- the calls
 abbrev pub ValidateSays : ℕ → List ℕ → Says
 ValidateSays n t =
     Check 1 (Counted n)
@@ -85,7 +87,6 @@ CandidateSays n t r dist =
     (Places 17 (Unbonded t r) (length r)
     Accepted)))))))
 
--- the checks before a search
 abbrev pub SearchSays : ℕ → List ℕ → ℕ → ℕ → List ℕ → Says → Says
 SearchSays n t limit allowance dist Later =
     Check 1 (Counted n)

@@ -3,6 +3,7 @@
 --   x ∈ xs           x is a member of xs
 --   Ascending R xs   each member stands in R to every later one
 --   gather f xs      f's lists for all members of xs, one after another
+--   consIf b x xs    x before xs where b is true, else xs
 --   keep p xs        the members that pass the test p, in order
 --   count n a        the n numbers from a on
 --   every p xs       whether every member passes the test p

@@ -6,6 +6,7 @@
 --   rings .. k               the rings of k vertices
 --   ringsWithin .. limit     the rings of 3 to limit vertices
 --   inWriting k p v          v, put after p, keeps to the one writing of a ring of k
+--   distanceRow far atoms ls    for each of these atoms the number of the first of the levels ls that holds it; far if none does
 --   distanceTable far cap size adj    a row of distances for each of `size` atoms, by levels: right as far as cap, far beyond
 --   look far t x y           the entry of such a table
 use mathlib.Core.Bool.{Bool, true, _&&_, _||_, not}

@@ -1,7 +1,9 @@
 -- One ring, one writing (document 01, "The rings").
 --
---   Reading o r s     s is the ring r read from one of its places on, round the ring, onwards or backwards
---   OneWriting r      the smallest atom stands first, and the second is smaller than the last
+--   Onwards o r s start      s is r read from the place `start` on, round the ring
+--   Backwards o r s start    s is r read from there the other way round
+--   Reading o r s            s is the ring r read from one of its places on, round the ring, onwards or backwards
+--   OneWriting r             the smallest atom stands first, and the second is smaller than the last
 use mathlib.Core.Path.{_≡_}
 use mathlib.Core.Logic.{_⊎_}
 use mathlib.Core.List.{List}

@@ -1,12 +1,16 @@
 -- What refusals 7 to 11 mean at a place of a table, and which fault is the first (document 01, "Numbered refusals").
 --
---   Outside, AfterFree, Own, NotAbove    7, 8, 9, 10 at place p of row x
---   Unanswered                           11 there
---   AtPlace n t x p c                    one of 7 to 10 with its number c
---   Earlier x p y q                      place p of row x is read before place q of row y: rows ascending, then places
---   Judged n t a                         all that a verdict can be: 1, 4, the first fault, or accepted, each with when it is given
---   NamesFirst n t a                     the answer a is the first fault: at its place it has the smallest number, no earlier
---                                        place has one of 7 to 10; 11 only where no place has one, and none earlier is unanswered
+--   Outside n t x p       7: the word at place p of row x is neither free nor below n
+--   AfterFree n t x p     8: it is a neighbour after a free place
+--   Own n t x p           9: it is the atom itself
+--   NotAbove n t x p      10: it is a neighbour not above the one before it
+--   Unanswered n t x p    11: it is a bond unanswered in the other row
+--   AtPlace n t x p c     one of 7 to 10 there, with its number c
+--   Earlier x p y q       place p of row x is read before place q of row y: rows ascending, then places
+--   NamesPlace n t a      the answer a is the first of 7 to 10: the smallest number at its place, and no earlier place has one
+--   NamesBond n t a       the answer a is the first 11: no place has one of 7 to 10, and no earlier bond is unanswered
+--   NamesFirst n t a      the one or the other: the answer a is the first fault
+--   Judged n t a          all that a verdict can be: 1, 4, the first fault, or accepted, each with when it is given
 use mathlib.Core.Path.{_≡_}
 use mathlib.Core.Logic.{_⊎_}
 use mathlib.Core.List.{List}
@@ -18,23 +22,18 @@ use Rattle.network.specs.Network.{word, Holds, Bonded, Counted, IsNetwor
 use Rattle.network.specs.Verdict.{accepted, refusal}
 
 module _ (n : ℕ) (t : List ℕ) (x p : ℕ) where
-  -- the word is neither free nor below n
   abbrev pub Outside : Type 0
   Outside = Holds t x p × (n ≤ word t x p)
 
-  -- a neighbour after a free place
   abbrev pub AfterFree : Type 0
   AfterFree = Holds t x p × ((q : ℕ) × (q < p) × (word t x q ≡ free))
 
-  -- the atom itself
   abbrev pub Own : Type 0
   Own = Holds t x p × (word t x p ≡ x)
 
-  -- a neighbour not above the one before it
   abbrev pub NotAbove : Type 0
   NotAbove = Holds t x p × ((q : ℕ) × (suc q ≡ p) × Holds t x q × (word t x p ≤ word t x q))
 
-  -- a bond unanswered in the other row
   abbrev pub Unanswered : Type 0
   Unanswered = Holds t x p × (Bonded t (word t x p) x → ⊥)
 

@@ -1,10 +1,19 @@
 -- What a validator says of a table: the first fault, in the order of the numbered refusals (document 01).
 -- Word i of a table stands in row i / 8, at place i % 8.
 --
---   answer code row place       an answer; `accepted` is 0 0 0, `refusal code` names no place
+--   answer code row place       the answer with these numbers
+--   accepted                    0 0 0
+--   refusal code                a refusal that names no place
 --   check code bad later        one check of a call: refusal `code` where it is bad, else what comes later
+--   notAtoms n                  n is no number of atoms: 1 to 250
+--   atomsOf n                   n, or 0 where n is no number of atoms
+--   notLong t m                 t has not m words
+--   after i b                   word i has a word before it in its row, and b holds
 --   placeFault n t i            7 to 10: the fault of word i alone, or 0
---   bondFault t i               11: word i is a neighbour in whose row row i's own number does not stand
+--   WordsBelow n t              each neighbour is an atom: below n
+--   stands t x y k p            x stands at one of the k places of row y from p on
+--   bondFault t i               11: word i is a neighbour in whose row the number of word i's own row does not stand; else 0
+--   orElse c i later            fault c at word i; where c is 0 there is none, and what comes later decides
 --   firstFault fault k i later  the first fault among the k words from i on, else what comes later
 --   faults n t later            7 to 11 over the whole table, 11 only where no word has another fault
 --   verdict n t                 1, 4, then 7 to 11
@@ -32,14 +41,12 @@ check code bad later = cond bad (refusal code) later
 abbrev pub notAtoms : ℕ → Bool
 notAtoms n = not (leb 1 n && leb n atomsMost)
 
--- the number of atoms of a network of n, or none where n is no such number
 unfoldable pub atomsOf : ℕ → ℕ
 atomsOf n = cond (notAtoms n) 0 n
 
 abbrev pub notLong : List ℕ → ℕ → Bool
 notLong t m = not (eqb (length t) m)
 
--- whether word i has a word before it in its row, and that word passes a test
 abbrev pub after : ℕ → Bool → Bool
 after i b = not (eqb (i % places) 0) && b
 
@@ -52,11 +59,9 @@ placeFault n t i =
     (cond (after i (leb (getD t i 0) (getD t (i - 1) 0))) 10
     0))))
 
--- each neighbour is an atom
 unfoldable pub WordsBelow : ℕ → List ℕ → Type 0
 WordsBelow n t = (i : ℕ) → i < length t → (getD t i 0 ≡ free → ⊥) → getD t i 0 < n
 
--- whether x stands at one of the k places of row y from p on
 unfoldable pub stands : List ℕ → ℕ → ℕ → ℕ → ℕ → Bool
 stands t x y zero p = false
 stands t x y (suc k) p = cond (eqb (getD t (y * places + p) 0) x) true (stands t x y k (p + 1))
@@ -64,7 +69,6 @@ stands t x y (suc k) p = cond (eqb (getD t (y * places + p) 0) x) true (stands t
 unfoldable pub bondFault : List ℕ → ℕ → ℕ
 bondFault t i = cond (eqb (getD t i 0) free) 0 (cond (stands t (i / places) (getD t i 0) places 0) 0 11)
 
--- fault c at word i; 0 is none, and what comes later decides
 unfoldable pub orElse : ℕ → ℕ → Answer → Answer
 orElse zero i later = later
 orElse (suc c) i later = answer (suc c) (i / places) (i % places)

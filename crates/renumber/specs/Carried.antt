@@ -3,7 +3,8 @@
 --   WritingOf r s             s is the one writing of the ring r
 --   CarriedTo names xs ys     the rings of ys are those of xs under their new names, each in its one writing; as many of each length
 --   Inverse n names home      the names `home` name every atom back
---   homeNames n names         these names, computed
+--   atomOf names w k          the greatest atom below k that has the name w, or 0
+--   homeNames n names         the names that name every atom back, computed
 use mathlib.Core.Path.{_≡_}
 use mathlib.Core.Logic.{_↔_}
 use mathlib.Core.Bool.{cond}
@@ -34,7 +35,6 @@ pub record Inverse (n : ℕ) (names home : List ℕ) : Type 0 where
   pub long : length home ≡ n
   pub undone : (x : ℕ) → x < n → name home (name names x) ≡ x
 
--- the atom below k that has the name w
 unfoldable pub atomOf : List ℕ → ℕ → ℕ → ℕ
 atomOf names w zero = 0
 atomOf names w (suc k) = cond (eqb (name names k) w) k (atomOf names w k)

@@ -1,11 +1,14 @@
 -- What is said of a candidate before it is tested: the first fault, in the order of the numbered refusals (document 01).
 --
---   outside n r i              15: the atom at place i is not below n
---   seen r j                   16: the atom at place j stands earlier too
---   apart t r i                17: the atom at place i is not bonded to the next, the last to the first
+--   outside n r i                  15: the atom at place i is not below n
+--   firstWith r j                  the first place that has the atom of place j, at most j
+--   seen r j                       16: the atom at place j stands earlier too
+--   placeOf t x y                  the first place of row x that holds y, or 8
+--   apart t r i                    17: the atom at place i is not bonded to the next, the last to the first
 --   firstPlace code bad k later    refusal `code` with the first bad place of k, else what comes later
---   ringVerdict n t r          14, then 15 over all places, 16 over all, 17 over all
---   candidateVerdict n t r d   1, 4, 5, 7 to 11, then 14 to 17
+--   ringVerdict n t r              14, then 15 over all places, 16 over all, 17 over all
+--   candidateVerdict n t r d       1, 4, 5, 7 to 11, then 14 to 17
+--   AtomsBelow n r                 every place holds an atom below n
 use mathlib.Core.Bool.{Bool, cond}
 use mathlib.Core.List.{List}
 use Prim.Native.Nat.{ℕ, _+_, _*_, _%_, _<_}
@@ -21,14 +24,12 @@ use Rattle.ring.specs.Writes.{notRing}
 abbrev pub outside : ℕ → List ℕ → ℕ → Bool
 outside n r i = leb n (getD r i 0)
 
--- the first place that has the atom of place j, at most j
 abbrev pub firstWith : List ℕ → ℕ → ℕ
 firstWith r j = firstOf (λ i. eqb (getD r i 0) (getD r j 0)) j 0
 
 abbrev pub seen : List ℕ → ℕ → Bool
 seen r j = ltb (firstWith r j) j
 
--- the first place of row x that holds y, or 8
 abbrev pub placeOf : List ℕ → ℕ → ℕ → ℕ
 placeOf t x y = firstOf (λ p. eqb (word t x p) y) places 0
 
@@ -53,6 +54,5 @@ candidateVerdict n t r d =
     (check 5 (notLong d (n * n))
     (faults n t (ringVerdict n t r))))
 
--- every place holds an atom below n
 unfoldable pub AtomsBelow : ℕ → List ℕ → Type 0
 AtomsBelow n r = (i : ℕ) → i < length r → getD r i 0 < n

@@ -4,6 +4,7 @@
 --   NotAtom, Repeated       15, 16 at place i
 --   Unbonded                17 there: the atom is not bonded to the next, the last to the first
 --   FirstAt Bad k i         i is the first of k places that is bad
+--   Never Bad k             none of k places is bad
 --   RingJudged n t r a      all that is said of a candidate in a network: 14, 15, 16 or 17, each with when it is given and
 --                           the first place at fault, or accepted, and then it is a ring
 use mathlib.Core.Path.{_≡_}

@@ -1,12 +1,14 @@
 -- A ring in the 24 words of the type `Ring`: its atoms, then zeros.
 --
---   padded r                      the words of r, filled up with zeros
---   notRing k                     k is not the length of a ring: 3 to 24
---   lengthOf k                    k, or 0 where k is no such length
---   atomsOf r                     the words of r, or zeros where r is too short or too long
---   readFrom r start onwards      r read from a place on, round the ring, onwards or backwards
---   lengthFrom k start, atomsFrom r start onwards    the same of such a reading, or 0 and zeros where there is no such ring or place
---   Writes r words                the words are the one writing of r, filled up with zeros
+--   padded r                    the words of r, filled up with zeros
+--   notRing k                   k is not the length of a ring: 3 to 24
+--   lengthOf k                  k, or 0 where k is no such length
+--   atomsOf r                   the words of r, or zeros where r is too short or too long
+--   placeAt k start onwards i   the place of a ring of k that is read i after the start
+--   readFrom r start onwards    r read from a place on, round the ring, onwards or backwards
+--   lengthFrom k start          the length of such a reading of a ring of k, or 0 where there is no such ring or place
+--   atomsFrom r start onwards   the words of such a reading, or zeros where there is no such ring or place
+--   Writes r words              the words are the one writing of r, filled up with zeros
 use mathlib.Core.Path.{_≡_}
 use mathlib.Core.Bool.{Bool, true, false, cond, not, _&&_, _||_}
 use mathlib.Core.List.{List, _++_, map}
@@ -29,7 +31,6 @@ lengthOf k = cond (notRing k) 0 k
 unfoldable pub atomsOf : List ℕ → List ℕ
 atomsOf r = cond (notRing (length r)) (replicate ringMost 0) (padded r)
 
--- the place of a ring of k that is read i after the start
 unfoldable pub placeAt : ℕ → ℕ → Bool → ℕ → ℕ
 placeAt k start true i = (start + i) % k
 placeAt k start false i = (start + (k - i)) % k
@@ -37,7 +38,6 @@ placeAt k start false i = (start + (k - i)) % k
 abbrev pub readFrom : List ℕ → ℕ → Bool → List ℕ
 readFrom r start onwards = map (λ i. getD r (placeAt (length r) start onwards i) 0) (count (length r) 0)
 
--- a ring read from a place on, where there is such a ring and such a place
 unfoldable pub lengthFrom : ℕ → ℕ → ℕ
 lengthFrom k start = cond (notRing k || leb k start) 0 k
 

@@ -7,6 +7,7 @@
 --   everyPair n dist k ring           every pair of a whole path fits
 --   isRing n dist k ring              a whole path, the first atom its smallest, is the one writing of a shortest-path ring
 --   Test                    a test that turns back: whether a ring may begin with the path and the atom after it
+--   Tests                   such a test for each number of atoms, buffer of distances and length
 --   follows may path a      a is above the path's first atom, and passes the test
 --   placeOf table path i    what stands at place i of the row of the path's last atom
 --   goesOn .. path i        that place holds an atom that may follow
@@ -71,7 +72,6 @@ extend may n table dist k (suc left) path =
 unfoldable pub branch : Test → ℕ → List ℕ → List ℕ → ℕ → ℕ → List ℕ → ℕ → List (List ℕ)
 branch may n table dist k left path i = cond (goesOn may n table path i) (extend may n table dist k left (path ++ (placeOf table path i ∷ []))) []
 
--- a test for each number of atoms, buffer of distances and length
 abbrev pub Tests : Type 0
 Tests = ℕ → List ℕ → ℕ → Test
 

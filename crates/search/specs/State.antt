@@ -1,5 +1,7 @@
 -- What the search has found so far: the count, and the list that it writes.
 --
+--   State                what the search has found, and the words of the list
+--   state found words    the state with these
 --   wrote ring s         a ring is counted, with the words that it takes, and written where it fits
 --   note a ring s        a ring is noted, unless the allowance a is used up
 --   noteAll a rings s    one after another

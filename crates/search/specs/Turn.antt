@@ -4,7 +4,8 @@
 --   antipodes n dist k path a      a next on the path fits the atoms across the ring from it, as far as they are placed: one where k is even, two where it is odd
 --   lastAbove k path a             a is above the second atom, if its place is the last
 --   reaches n dist k path a y      with a next on the path, y fits at the place just past half the ring
---   lookAhead n dist k path a      and some atom above the first does, where the path ends before that place
+--   seen n dist k path a y         y fits so, and is above the path's first atom
+--   lookAhead n dist k path a      some atom is seen, where the path ends before that place
 --   mayFollow n dist k path a      the test: a fits the first atom and those across; it closes the ring the right way; and something can stand across
 --   stood n dist k path y          y is above the path's first atom, and fits at the place just past half the ring
 --   Hint n dist k path from        a look ahead from the path may start at `from`: no atom below can stand at that place
