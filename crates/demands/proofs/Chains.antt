@@ -21,10 +21,10 @@ use Rattle.network.proofs.FirstFaults.{verdict-judges}
 use Rattle.ring.specs.Firsts.{firstOf}
 use Rattle.ring.specs.CandidateVerdict.{firstPlace}
 use Rattle.ring.proofs.Firsts.{first-of}
-use Rattle.demands.specs.Refusals.{Says, Check, Table, Places}
+use Rattle.demands.specs.Refusals.{Answers, Check, Table, Places}
 
 -- one check
-pub check-says : (c : ℕ) (bad : Bool) (later : Answer) (Right : Type 0) (Later : Says) → Dec Right → (Right → bad ≡ false) → ((Right → ⊥) → bad ≡ true) → (Right → Later later) → Check c Right Later (check c bad later)
+pub check-says : (c : ℕ) (bad : Bool) (later : Answer) (Right : Type 0) (Later : Answers) → Dec Right → (Right → bad ≡ false) → ((Right → ⊥) → bad ≡ true) → (Right → Later later) → Check c Right Later (check c bad later)
 unfolding Check
 check-says c bad later Right Later (yes r) f g k = subst (λ (b : Bool). Check c Right Later (check c b later)) (sym (f r)) (inr (r, k r))
 check-says c bad later Right Later (no h) f g k = subst (λ (b : Bool). Check c Right Later (check c b later)) (sym (g h)) (inl (h, refl))
@@ -49,20 +49,20 @@ module _ (low high k : ℕ) where
       go (yes l) (no m) = rw (le-leb low k l, lt-leb k high (omega arith)) refl
       go (no l) _ = rw (lt-leb low k (omega arith)) refl
 
-pub check-atoms : (n : ℕ) (later : Answer) (Later : Says) → (Counted n → Later later) → Check 1 (Counted n) Later (check 1 (notAtoms n) later)
+pub check-atoms : (n : ℕ) (later : Answer) (Later : Answers) → (Counted n → Later later) → Check 1 (Counted n) Later (check 1 (notAtoms n) later)
 check-atoms n later Later = check-says 1 (notAtoms n) later (Counted n) Later counted (λ C. atoms n (C .some) (C .most)) (λ h. ap not (range-false 1 atomsMost n (λ b. h (record { some = b .0; most = b .1 }))))
   where
     counted : Dec (Counted n)
     counted = elim (in-range 1 atomsMost n) [ yes b ↦ yes (record { some = b .0; most = b .1 }) | no b ↦ no (λ C. b (C .some, C .most)) ]
 
-pub check-long : (c : ℕ) (t : List ℕ) (m : ℕ) (later : Answer) (Later : Says) → (length t ≡ m → Later later) → Check c (length t ≡ m) Later (check c (notLong t m) later)
+pub check-long : (c : ℕ) (t : List ℕ) (m : ℕ) (later : Answer) (Later : Answers) → (length t ≡ m → Later later) → Check c (length t ≡ m) Later (check c (notLong t m) later)
 check-long c t m later Later = check-says c (notLong t m) later (length t ≡ m) Later (ℕ-discrete (length t) m) (long t m) (not-long t m)
 
-pub check-most : (c a b : ℕ) (later : Answer) (Later : Says) → (b ≤ a → Later later) → Check c (b ≤ a) Later (check c (ltb a b) later)
+pub check-most : (c a b : ℕ) (later : Answer) (Later : Answers) → (b ≤ a → Later later) → Check c (b ≤ a) Later (check c (ltb a b) later)
 check-most c a b later Later = check-says c (ltb a b) later (b ≤ a) Later (decLe b a) (le-ltb a b) (λ h. lt-ltb a b (omega arith))
 
 -- the table
-pub table-says : (n : ℕ) (t : List ℕ) (later : Answer) (Later : Says) → Counted n → length t ≡ places * n → (IsNetwork n t → Later later) → Table n t Later (faults n t later)
+pub table-says : (n : ℕ) (t : List ℕ) (later : Answer) (Later : Answers) → Counted n → length t ≡ places * n → (IsNetwork n t → Later later) → Table n t Later (faults n t later)
 unfolding Table
 table-says n t later Later C w k = go (verdict-judges n t)
   where
@@ -86,7 +86,7 @@ table-says n t later Later C w k = go (verdict-judges n t)
     go (inr (inr (inr h))) = inr (h .0, subst Later (sym (faultless-of n t (h .0) later)) (k (h .0)))
 
 -- the places of a list
-pub places-says : (c : ℕ) (bad : ℕ → Bool) (k : ℕ) (later : Answer) (Bad : ℕ → Type 0) (Later : Says)
+pub places-says : (c : ℕ) (bad : ℕ → Bool) (k : ℕ) (later : Answer) (Bad : ℕ → Type 0) (Later : Answers)
     → ((i : ℕ) → i < k → bad i ≡ true → Bad i) → ((i : ℕ) → i < k → bad i ≡ false → Bad i → ⊥)
     → (((i : ℕ) → i < k → Bad i → ⊥) → Later later) → Places c Bad k Later (firstPlace c bad k later)
 unfolding Places

@@ -16,12 +16,12 @@ use Rattle.bnw.specs.Reading.{versionIn, atomsIn, bondsIn, signed, outside, mar
 use Rattle.bnw.proofs.Valid.{scan-clean, clean-scan}
 use Rattle.bnw.proofs.FirstBonds.{fault-clean, names-first}
 use Rattle.bnw.proofs.BondFaults.{given}
-use Rattle.demands.specs.Refusals.{Says, Check, Accepted}
+use Rattle.demands.specs.Refusals.{Answers, Check, Accepted}
 use Rattle.demands.specs.FileRefusals.{Marked, Within, Bonds, ReadSays}
 use Rattle.demands.proofs.Chains.{in-range, range-true, range-false}
 
 -- one check of the head
-module _ (c : ℕ) (some : c ≡ 0 → ⊥) (bad : Bool) (rest : ℕ) (later : Answer) (Right : Type 0) (Later : Says) where
+module _ (c : ℕ) (some : c ≡ 0 → ⊥) (bad : Bool) (rest : ℕ) (later : Answer) (Right : Type 0) (Later : Answers) where
   head-says : Dec Right → (Right → bad ≡ false) → ((Right → ⊥) → bad ≡ true) → (Right → Later (orAt rest 0 later)) → Check c Right Later (orAt (cond bad c rest) 0 later)
   unfolding Check
   head-says (yes r) f g k = subst (λ (b : Bool). Check c Right Later (orAt (cond b c rest) 0 later)) (sym (f r)) (inr (r, k r))

@@ -1,16 +1,18 @@
--- That the demands are met. Read Demands, and FigureFile beside it; the rest serves them.
+-- That the demands are met. Read Demands, and FigureFile and FigureText beside it; the rest serves them.
 pub mod Chains
 pub mod OneAnswer
 pub mod Refusals
 pub mod Searches
 pub mod Rings
-pub mod Files
 pub mod SearchRefusals
 pub mod FileRefusals
-pub mod Calls
-pub mod Renumbering
+pub mod Meets
+pub mod OneListing
+pub mod SameRings
+pub mod ThereAndBack
+pub mod OneOutcome
 pub mod Examples
 pub mod FigureFile
 pub mod FigureText
-pub mod Program
+pub mod Printing
 pub mod Demands

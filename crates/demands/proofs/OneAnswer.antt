@@ -15,7 +15,7 @@ use Rattle.network.specs.FirstFault as table
 use Rattle.census.specs.Census.{limitOf}
 use Rattle.bnw.specs.File.{Bond}
 use Rattle.bnw.specs.FirstBond.{Misplaced, Ninth, NamesBond}
-use Rattle.demands.specs.Refusals.{Says, OneAnswer, Check, Table, Places, OfRings, Accepted}
+use Rattle.demands.specs.Refusals.{Answers, OneAnswer, Check, Table, Places, OfRings, Accepted}
 use Rattle.demands.specs.FileRefusals.{Bonds}
 
 same-answer : (a b : Answer) → a .code ≡ b .code → a .row ≡ b .row → a .place ≡ b .place → a ≡ b
@@ -24,7 +24,7 @@ same-answer a b e f g = ap₂ (λ (c x : ℕ). answer c x (a .place)) e f ∙ ap
 pub one-accepted : OneAnswer Accepted
 one-accepted a b h k = h ∙ sym k
 
-pub one-check : (c : ℕ) (Right : Type 0) (Later : Says) → OneAnswer Later → OneAnswer (Check c Right Later)
+pub one-check : (c : ℕ) (Right : Type 0) (Later : Answers) → OneAnswer Later → OneAnswer (Check c Right Later)
 unfolding Check
 one-check c Right Later one a b (inl h) (inl k) = h .1 ∙ sym (k .1)
 one-check c Right Later one a b (inl h) (inr k) = absurd (h .0 (k .0))
@@ -35,7 +35,7 @@ one-check c Right Later one a b (inr h) (inr k) = one a b (h .1) (k .1)
 same-place : (p q : ℕ) → (p < q → ⊥) → (q < p → ⊥) → p ≡ q
 same-place p q h k = elim (decLt p q) [ yes l ↦ absurd (h l) | no l ↦ elim (decLt q p) [ yes m ↦ absurd (k m) | no m ↦ omega arith ] ]
 
-pub one-places : (c : ℕ) (Bad : ℕ → Type 0) (m : ℕ) (Later : Says) → OneAnswer Later → OneAnswer (Places c Bad m Later)
+pub one-places : (c : ℕ) (Bad : ℕ → Type 0) (m : ℕ) (Later : Answers) → OneAnswer Later → OneAnswer (Places c Bad m Later)
 unfolding Places
 one-places c Bad m Later one a b (inl h) (inl k) = h .4 ∙ ap (λ (p : ℕ). answer c 0 p) (same-place (h .0) (k .0) (λ l. k .3 (h .0) l (h .2)) (λ l. h .3 (k .0) l (k .2))) ∙ sym (k .4)
 one-places c Bad m Later one a b (inl h) (inr k) = absurd (k .0 (h .0) (h .1) (h .2))
@@ -76,14 +76,14 @@ module _ (n : ℕ) (t : List ℕ) where
       at (inr (inr (inr (_, (h, (q, e, k, l)))))) = omega (arith, l, N .ascends (a .row) q (a .place) (P .row) (omega arith) (P .place) h)
   faultless a N (inr B) = B .there .1 (N .answered (a .row) (a .place) (B .row) (B .place) (B .there .0))
 
-  pub one-table : (Later : Says) → OneAnswer Later → OneAnswer (Table n t Later)
+  pub one-table : (Later : Answers) → OneAnswer Later → OneAnswer (Table n t Later)
   unfolding Table
   one-table Later one a b (inl h) (inl k) = one-first a b h k
   one-table Later one a b (inl h) (inr k) = absurd (faultless a (k .0) h)
   one-table Later one a b (inr h) (inl k) = absurd (faultless b (h .0) k)
   one-table Later one a b (inr h) (inr k) = one a b (h .1) (k .1)
 
-pub one-of-rings : (t : List ℕ) (limit : ℕ) (Later : List (List ℕ) → Says) → ((rings : List (List ℕ)) → OneAnswer (Later rings)) → OneAnswer (OfRings t limit Later)
+pub one-of-rings : (t : List ℕ) (limit : ℕ) (Later : List (List ℕ) → Answers) → ((rings : List (List ℕ)) → OneAnswer (Later rings)) → OneAnswer (OfRings t limit Later)
 one-of-rings t limit Later one a b h k =
     one (k .0) a b (subst (λ (rings : List (List ℕ)). Later rings a) (ring-listing-unique (Bonded t) (limitOf limit) (h .0) (k .0) (h .1) (k .1)) (h .2)) (k .2)
 
@@ -105,7 +105,7 @@ module _ (n : ℕ) (bond : ℕ → Bond) (m : ℕ) where
       number (inr f) (inl g) = absurd (f .1 (subst (Misplaced n bond) (sym at) (g .1)))
       number (inr f) (inr g) = f .0 ∙ sym (g .0)
 
-  pub one-bonds : (Later : Says) → OneAnswer Later → OneAnswer (Bonds n bond m Later)
+  pub one-bonds : (Later : Answers) → OneAnswer Later → OneAnswer (Bonds n bond m Later)
   unfolding Bonds
   one-bonds Later one a b (inl h) (inl k) = one-fault a b h k
   one-bonds Later one a b (inl h) (inr k) = absurd (at-fault a h (k .0 (a .place) (h .place)))

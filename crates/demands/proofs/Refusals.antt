@@ -27,7 +27,7 @@ use Rattle.renumber.specs.Outcome as renumber
 use Rattle.renumber.proofs.Judges.{renumber-judges}
 use Rattle.bnw.specs.File.{fileOf, bondsOf}
 use Rattle.bnw.specs.Writing.{writeVerdict}
-use Rattle.demands.specs.Refusals.{Says, Check, Table, Places, Accepted, ValidateSays, DistancesSays, CandidateSays, RenumberSays, WriteSays}
+use Rattle.demands.specs.Refusals.{Answers, Check, Table, Places, Accepted, ValidateSays, DistancesSays, CandidateSays, RenumberSays, WriteSays}
 use Rattle.demands.proofs.Chains.{check-says, in-range, range-true, range-false, check-atoms, check-long, check-most, table-says, places-says}
 
 pub validate-says : (n : ℕ) (t : List ℕ) → ValidateSays n t (verdict n t)
@@ -45,7 +45,7 @@ write-says n t file =
     check-most 28 (length file) (length (fileOf n (bondsOf t))) accepted Accepted (λ _. refl)
 
 -- renumbering: 18 at the first bad name
-names-say : (n : ℕ) (names : List ℕ) (a : Answer) (Later : Says) → NamesBad n names a → Places 18 (BadName n names) n Later a
+names-say : (n : ℕ) (names : List ℕ) (a : Answer) (Later : Answers) → NamesBad n names a → Places 18 (BadName n names) n Later a
 unfolding Places
 names-say n names a Later B = inl (a .place, B .place, B .there, B .first, ap₂ (λ (c x : ℕ). answer c x (a .place)) (B .eighteen) (B .row))
 

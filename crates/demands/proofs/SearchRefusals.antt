@@ -18,11 +18,10 @@ use Rattle.ring.specs.Maxima.{ringLeast, ringMost, allowanceMost}
 use Rattle.census.specs.declared.Census.{Census}
 use Rattle.census.specs.Census.{notLimit, notAllowance, beforeSearch, encode, noCensus, afterCount, afterList, settled, Outcome, CountOutcome, ListOutcome}
 use Rattle.census.proofs.Passed.{limit-given, Passed, reached-exactly}
-use Rattle.census.proofs.Settled.{code}
-use Rattle.demands.specs.Refusals.{Says, Check, Table, OfRings, Accepted, RightLimit, RightAllowance, SearchSays, CountSays, ListSays}
+use Rattle.census.proofs.Settled.{code, encode-words}
+use Rattle.demands.specs.Refusals.{Answers, Check, Table, OfRings, Accepted, RightLimit, RightAllowance, SearchSays, CountSays, ListSays}
 use Rattle.demands.specs.Calls.{AfterSearch}
 use Rattle.demands.proofs.Chains.{check-says, in-range, range-true, range-false, check-atoms, check-long, check-most, table-says}
-use Rattle.demands.proofs.Searches.{encode-words}
 
 module _ (limit : ℕ) where
   right-limit : Dec (RightLimit limit)
@@ -61,7 +60,7 @@ module _ (n : ℕ) (t : List ℕ) (limit allowance : ℕ) (d : List ℕ) where
       at (inr (inr (inr h))) = omega (arith, h .0)
   first-low a (inr B) = omega (arith, B .eleven)
 
-  early : (Later : Says) (a : Answer) → SearchSays n t limit allowance d Accepted a → (a .code ≡ 0 → ⊥) → (a .code < 12) × SearchSays n t limit allowance d Later a
+  early : (Later : Answers) (a : Answer) → SearchSays n t limit allowance d Accepted a → (a .code ≡ 0 → ⊥) → (a .code < 12) × SearchSays n t limit allowance d Later a
   unfolding Check Table
   early Later a S z = go S
     where
@@ -78,7 +77,7 @@ module _ (n : ℕ) (t : List ℕ) (limit allowance : ℕ) (d : List ℕ) where
       go (inr (C, inr (l, inr (m, inr (w, inr (q, inr (N, e))))))) = absurd (z (ap (λ (x : Answer). x .code) e))
 
   -- past the checks
-  reached-says : (Later : Says) (a : Answer) → Passed n t limit allowance d → Later a → SearchSays n t limit allowance d Later a
+  pub reached-says : (Later : Answers) (a : Answer) → Passed n t limit allowance d → Later a → SearchSays n t limit allowance d Later a
   unfolding Check Table
   reached-says Later a P k = inr (P .network .counted, inr (given (ℕ-discrete limit 0), inr ((P .some, P .bounded), inr (P .network .whole, inr (P .room, inr (P .network, k))))))
     where
@@ -115,7 +114,7 @@ module _ (n : ℕ) (t : List ℕ) (limit allowance : ℕ) (d d′ : List ℕ) (c
   first : Answer
   first = beforeSearch n t limit allowance d
 
-  pub search-says : (Later : List (List ℕ) → Says) → ((rings : List (List ℕ)) → Later rings (f rings))
+  pub search-says : (Later : List (List ℕ) → Answers) → ((rings : List (List ℕ)) → Later rings (f rings))
       → SearchSays n t limit allowance d (OfRings t limit Later) (c .answer)
   unfolding first
   search-says Later k = go (ℕ-discrete (first .code) 0)

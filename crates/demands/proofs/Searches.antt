@@ -1,9 +1,9 @@
 -- What is common to counting and listing: what comes before the search of a network, and the words of a list.
 use mathlib.Core.Path.{_≡_, refl, _∙_}
 use mathlib.Core.List.{List, [], _∷_, _++_}
-use Prim.Native.Nat.{ℕ, _+_, _*_}
+use Prim.Native.Nat.{ℕ, _+_, _-_, _*_}
 use native.Mathlib.Omega.{arith}
-use lib.ListN.{length, drop, length-append}
+use lib.ListN.{length, drop}
 use Rattle.graph.specs.Counts.{sumOf, wordsOf}
 use Rattle.graph.specs.Listing.{RingListing}
 use Rattle.graph.proofs.Lists.{sets-front}
@@ -16,17 +16,15 @@ use Rattle.network.proofs.Networks.{faultless-of}
 use Rattle.census.specs.declared.Census.{Census}
 use Rattle.census.specs.Census.{limitOf, notLimit, notAllowance, beforeSearch, encode, censusOf, Outcome, ListOutcome}
 use Rattle.census.proofs.Passed.{reached-exactly}
-use Rattle.census.proofs.Settled.{code, unrefused, reached, told-list}
+use Rattle.census.proofs.Settled.{code, unrefused, reached, told-list, encode-words}
 
--- a list takes a word for each ring's length, and its atoms
-pub encode-words : (rings : List (List ℕ)) → length (encode rings) ≡ wordsOf rings
-unfolding encode
-encode-words [] = refl
-encode-words (r ∷ rings) = omega (arith, encode-words rings, length-append r (encode rings))
-
-pub words-lengths : (rings : List (List ℕ)) → wordsOf rings ≡ sumOf (λ k. k) rings + length rings
+words-lengths : (rings : List (List ℕ)) → wordsOf rings ≡ sumOf (λ k. k) rings + length rings
 words-lengths [] = refl
 words-lengths (r ∷ rings) = omega (arith, words-lengths rings)
+
+-- the words of a list, less the number of rings, are the sum of their lengths
+pub lengths-words : (rings : List (List ℕ)) → length (encode rings) - length rings ≡ sumOf (λ k. k) rings
+lengths-words rings = omega (arith, encode-words rings, words-lengths rings)
 
 pub reached-network : (n : ℕ) (t : List ℕ) (limit allowance : ℕ) (before : List ℕ) (f : List (List ℕ) → Answer) (after : List ℕ) (c : Census) → Outcome n t limit allowance f before after c → code c ≡ 0 → IsNetwork n t
 reached-network n t limit allowance before f after c O z = reached-exactly n t limit allowance before .0 (unrefused O z) .network

@@ -16,7 +16,8 @@ use Rattle.examples.specs.NearMisses.{AllMissed}
 use Rattle.examples.specs.Repeats.{AllTakenTwice}
 use Rattle.ring.specs.Maxima.{allowanceMost}
 use Rattle.census.specs.declared.Census.{Census}
-use Rattle.census.specs.Census.{encode, censusOf, ListOutcome}
+use Rattle.census.specs.Census.{encode, censusOf}
+use Rattle.demands.specs.Calls.{ListMet}
 
 pub record ExamplesHold : Type 0 where
   pub hold : AllHold
@@ -39,5 +40,5 @@ pub record ExampleListed (e : Example) (l l′ : List ℕ) (c : Census) : Type 0
 abbrev pub ExamplesListed : Type 0
 ExamplesListed =
     (e : Example) → e ∈ examples → (allowance : ℕ) (d d′ l l′ : List ℕ) (c : Census) → Enough e allowance d l
-    → ListOutcome (length (e .rows)) (tableOf (e .rows)) (e .limit) allowance d d′ l l′ c
+    → ListMet (length (e .rows)) (tableOf (e .rows)) (e .limit) allowance d d′ l l′ c
     → ExampleListed e l l′ c

@@ -14,7 +14,7 @@ use Rattle.network.specs.Maxima.{atomsMost, places}
 use Rattle.bnw.specs.File.{Bond, mark, version, bondsMost, headLength, bondLength}
 use Rattle.bnw.specs.FirstBond.{Misplaced, Ninth, NamesBond}
 use Rattle.bnw.specs.Reading.{versionIn, atomsIn, bondsIn, signed, bondIn}
-use Rattle.demands.specs.Refusals.{Says, Check, Accepted}
+use Rattle.demands.specs.Refusals.{Answers, Check, Accepted}
 
 abbrev pub Marked : List ℕ → Type 0
 Marked file = (getD file 0 0 ≡ getD mark 0 0) × (getD file 1 0 ≡ getD mark 1 0) × (getD file 2 0 ≡ getD mark 2 0)
@@ -23,10 +23,10 @@ abbrev pub Within : ℕ → ℕ → ℤ → Type 0
 Within low high (pos v) = (low ≤ v) × (v ≤ high)
 Within low high (negsuc v) = ⊥
 
-unfoldable pub Bonds : ℕ → (ℕ → Bond) → ℕ → Says → Says
+unfoldable pub Bonds : ℕ → (ℕ → Bond) → ℕ → Answers → Answers
 Bonds n bond m Later a = NamesBond n bond m a ⊎ (((k : ℕ) → k < m → (Misplaced n bond k → ⊥) × (Ninth bond k → ⊥)) × Later a)
 
-abbrev pub ReadSays : List ℕ → List ℕ → Says
+abbrev pub ReadSays : List ℕ → List ℕ → Answers
 ReadSays file table =
     Check 19 (headLength ≤ length file)
     (Check 20 (Marked file)

@@ -1,9 +1,11 @@
 -- Demand 2, of files. An accepted file, read and written again, gives the same bytes;
 -- an accepted network, written and read again, gives the same network.
 --
---   rowsRead r after  the rows that a reading has filled
---   ReadThenWrite     what an accepted reading leaves is a network; writing it, where the bytes lent have room, is accepted and gives the file
---   WriteThenRead     reading what an accepted writing wrote, where the table lent has room, is accepted and gives the network
+--   rowsRead r table′           the rows that a reading has filled
+--   ReadThenWrite file table table′ lent lent′ r      both calls meet what is demanded of them; an accepted reading leaves a network,
+--                               and writing this, where the bytes lent have room, is accepted and gives the file
+--   WriteThenRead n t file file′ table table′ r       both calls meet what is demanded of them; after an accepted writing, reading what
+--                               it wrote, where the table lent has room, is accepted and gives the network
 use mathlib.Core.Path.{_≡_}
 use mathlib.Core.List.{List}
 use Prim.Native.Nat.{ℕ, _*_, _≤_}
@@ -11,22 +13,19 @@ use lib.ListN.{length, take}
 use Rattle.network.specs.Maxima.{places}
 use Rattle.network.specs.Network.{IsNetwork}
 use Rattle.bnw.specs.declared.Reading.{Reading}
-use Rattle.bnw.specs.declared.Written.{Written}
-use Rattle.bnw.specs.Reading.{Reads}
-use Rattle.bnw.specs.Writing.{Writes}
+use Rattle.demands.specs.declared.files.ThereAndBack.{ThereAndBack}
+use Rattle.demands.specs.Calls.{ReadMet, WriteMet}
 
 abbrev pub rowsRead : Reading → List ℕ → List ℕ
-rowsRead r after = take (places * r .atoms) after
+rowsRead r table′ = take (places * r .atoms) table′
 
-abbrev pub ReadThenWrite : Type 0
-ReadThenWrite =
-    (file before after : List ℕ) (r : Reading) → Reads file before after r → r .answer .code ≡ 0
-    → IsNetwork (r .atoms) (rowsRead r after)
-    × ((lent written : List ℕ) (w : Written) → Writes (r .atoms) (rowsRead r after) lent written w → length file ≤ length lent
-    → (w .answer .code ≡ 0) × (take (w .bytes) written ≡ file))
+pub record ReadThenWrite (file table table′ lent lent′ : List ℕ) (r : ThereAndBack) : Type 0 where
+  pub read : ReadMet file table table′ (r .reading)
+  pub written : WriteMet (r .reading .atoms) (rowsRead (r .reading) table′) lent lent′ (r .writing)
+  pub network : r .reading .answer .code ≡ 0 → IsNetwork (r .reading .atoms) (rowsRead (r .reading) table′)
+  pub back : r .reading .answer .code ≡ 0 → length file ≤ length lent → (r .writing .answer .code ≡ 0) × (take (r .writing .bytes) lent′ ≡ file)
 
-abbrev pub WriteThenRead : Type 0
-WriteThenRead =
-    (n : ℕ) (t lent written : List ℕ) (w : Written) → Writes n t lent written w → w .answer .code ≡ 0
-    → (before after : List ℕ) (r : Reading) → Reads (take (w .bytes) written) before after r → places * n ≤ length before
-    → (r .answer .code ≡ 0) × (r .atoms ≡ n) × (rowsRead r after ≡ t)
+pub record WriteThenRead (n : ℕ) (t file file′ table table′ : List ℕ) (r : ThereAndBack) : Type 0 where
+  pub written : WriteMet n t file file′ (r .writing)
+  pub read : ReadMet (take (r .writing .bytes) file′) table table′ (r .reading)
+  pub back : r .writing .answer .code ≡ 0 → places * n ≤ length table → (r .reading .answer .code ≡ 0) × (r .reading .atoms ≡ n) × (rowsRead (r .reading) table′ ≡ t)

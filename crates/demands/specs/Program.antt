@@ -1,14 +1,19 @@
 -- What the listing program prints for a file is what reading the file and listing its network say (document 01, "The network file").
+-- A lent buffer afterwards has a prime. src/program.rt ensures it of the call.
 --
 --   ListingPrinted n bonds l l′ c text    the text of listing a network into the buffer l: the refusal's line; or atoms and bonds, a line for
 --                                         each of the rings that stand in the buffer, the counts by length and the total of the census
---   ReadingPrinted file text table table′ r    the text of reading a file: the refusal's line, or that of listing the network read
---   Printed                               each file has one text, which is what reading and listing say; it fits the bytes that the program
---                                         lends, and the bytes of the file that the program reads are enough to tell it
+--   ReadingPrinted table′ r text          the text of reading a file: the refusal's line, or that of listing the network read, at limit 0 with
+--                                         the greatest allowance and the program's list buffer
+--   Printed file text                     the text is the file's, and what reading it and listing say; it fits the bytes that the program lends
+--   RespondMet file out out′ bytes        the file's text stands at the front of the bytes lent, and its length is answered; where these
+--                                         are too few for some text, nothing is written and 0 is answered
+--   RespondFixed                          one outcome meets this, a file has one text, and the bytes of it that the program reads are
+--                                         enough to tell the text
 use mathlib.Core.Path.{_≡_}
 use mathlib.Core.Logic.{_↔_}
 use mathlib.Core.List.{List, _++_}
-use Prim.Native.Nat.{ℕ, _*_, _≤_}
+use Prim.Native.Nat.{ℕ, _*_, _≤_, _<_}
 use lib.ListN.{length, take, drop}
 use Rattle.graph.specs.Lists.{gather}
 use Rattle.ring.specs.Maxima.{allowanceMost}
@@ -17,7 +22,7 @@ use Rattle.census.specs.Census.{encode, ListOutcome}
 use Rattle.bnw.specs.declared.Reading.{Reading}
 use Rattle.bnw.specs.Reading.{Bytes, Reads}
 use Rattle.text.specs.Lines.{sizesText, ringText, countsText, totalText, refusalText}
-use Rattle.report.specs.Report.{fileBytes, tableWords, listWords, textBytes, FileText}
+use Rattle.report.specs.Report.{fileBytes, tableWords, listWords, textBytes, FileText, Stands}
 use Rattle.demands.specs.Files.{rowsRead}
 
 pub record ListingPrinted (n bonds : ℕ) (l l′ : List ℕ) (c : Census) (text : List ℕ) : Type 0 where
@@ -26,13 +31,21 @@ pub record ListingPrinted (n bonds : ℕ) (l l′ : List ℕ) (c : Census) (text
       × (l′ ≡ encode rings ++ drop (length (encode rings)) l)
       × (text ≡ sizesText n bonds ++ (gather ringText rings ++ (countsText 0 (c .counts) ++ totalText (c .total))))
 
-pub record ReadingPrinted (file text table table′ : List ℕ) (r : Reading) : Type 0 where
+pub record ReadingPrinted (table′ : List ℕ) (r : Reading) (text : List ℕ) : Type 0 where
   pub refused : (r .answer .code ≡ 0 → ⊥) → text ≡ refusalText (r .answer)
   pub listed : r .answer .code ≡ 0 → (d d′ l l′ : List ℕ) (c : Census) → ListOutcome (r .atoms) (rowsRead r table′) 0 allowanceMost d d′ l l′ c
       → length d ≡ r .atoms * r .atoms → length l ≡ listWords → ListingPrinted (r .atoms) (r .bonds) l l′ c text
 
-pub record Printed : Type 0 where
-  pub says : (file text table table′ : List ℕ) (r : Reading) → FileText file text → Reads file table table′ r → length table ≡ tableWords → ReadingPrinted file text table table′ r
-  pub one : (file s u : List ℕ) → FileText file s → FileText file u → s ≡ u
-  pub fits : (file text : List ℕ) → FileText file text → length text ≤ textBytes
+pub record Printed (file text : List ℕ) : Type 0 where
+  pub of-file : FileText file text
+  pub says : (table table′ : List ℕ) (r : Reading) → Reads file table table′ r → length table ≡ tableWords → ReadingPrinted table′ r text
+  pub fits : length text ≤ textBytes
+
+pub record RespondMet (file out out′ : List ℕ) (bytes : ℕ) : Type 0 where
+  pub short : length out < textBytes → (bytes ≡ 0) × (out′ ≡ out)
+  pub printed : textBytes ≤ length out → (text : List ℕ) × Printed file text × Stands text out out′ bytes
+
+pub record RespondFixed : Type 0 where
+  pub outcome : (file out out′ out″ : List ℕ) (bytes more : ℕ) → RespondMet file out out′ bytes → RespondMet file out out″ more → (bytes ≡ more) × (out′ ≡ out″)
+  pub text : (file s u : List ℕ) → FileText file s → FileText file u → s ≡ u
   pub enough : (file text : List ℕ) → Bytes file → FileText (take fileBytes file) text ↔ FileText file text

@@ -5,15 +5,14 @@
 --   StandsOnce rings r          one of the readings of r stands at one place of the list, and no other reading at any place
 --   StandExactly t limit rings  the demand, of a list of rings: what stands in it, each in its one writing, in list order
 --   Numbers n rings c           the numbers of a census c that follow from the list: counts, total, words, averages
---   Tells n t limit c           the limit used, a list of rings of which both hold
---   AcceptedListing             the demand, of a listing: these rings stand at the front of the list buffer, whose rest stays
---   AcceptedCount               the demand, of counting: the numbers are those of the same list
+--   AcceptedCount n t limit c   the demand, of counting: the limit used, and a list of rings of which both hold
+--   AcceptedListing n t limit list list′ c    the demand, of a listing: and these rings stand at the front of the list buffer, whose rest stays
 use mathlib.Core.Path.{_≡_}
 use mathlib.Core.Logic.{_↔_}
-use mathlib.Core.List.{List, [], _++_}
-use Prim.Native.Nat.{ℕ, _-_, _≤_, _<_}
+use mathlib.Core.List.{List, [], _++_, map}
+use Prim.Native.Nat.{ℕ, _+_, _-_, _≤_, _<_}
 use lib.ListN.{length, getD, drop}
-use Rattle.graph.specs.Lists.{_∈_, Ascending}
+use Rattle.graph.specs.Lists.{_∈_, Ascending, count}
 use Rattle.graph.specs.Graph.{Distance, around, Ring}
 use Rattle.graph.specs.Writing.{Reading, OneWriting}
 use Rattle.graph.specs.Listing.{Before}
@@ -22,7 +21,7 @@ use Rattle.network.specs.Network.{Bonded}
 use Rattle.ring.specs.Maxima.{ringMost}
 use Rattle.census.specs.declared.Census.{Census}
 use Rattle.census.specs.Averages.{quotient, meanOf, meanValues}
-use Rattle.census.specs.Census.{limitOf, encode, CountOutcome, ListOutcome}
+use Rattle.census.specs.Census.{limitOf, encode}
 
 abbrev pub RoundIsDistance : List ℕ → List ℕ → Type 0
 RoundIsDistance t r = (i j : ℕ) → i < j → j < length r → Distance (Bonded t) (getD r i 0) (getD r j 0) (around (length r) (j - i))
@@ -44,25 +43,19 @@ pub record StandExactly (t : List ℕ) (limit : ℕ) (rings : List (List ℕ)) :
   pub order : Ascending (Before _<_) rings
 
 pub record Numbers (n : ℕ) (rings : List (List ℕ)) (c : Census) : Type 0 where
-  pub counts : (k : ℕ) → k ≤ ringMost → getD (c .counts) k 0 ≡ ofLength k rings
+  -- one count for each length, 0 to the greatest, in this order: how many rings have that length
+  pub counts : c .counts ≡ map (λ k. ofLength k rings) (count (ringMost + 1) 0)
   pub total : c .total ≡ length rings
   pub words : c .words ≡ wordsOf rings
   -- rings per atom, and their mean length: the sum of the lengths over the number of rings
   pub per-atom : c .averages .«per_atom» ≡ quotient (length rings) n
   pub mean : meanValues (c .averages .mean) ≡ meanValues (meanOf (length rings) (sumOf (λ k. k) rings))
 
-pub record Tells (n : ℕ) (t : List ℕ) (limit : ℕ) (c : Census) : Type 0 where
+pub record AcceptedCount (n : ℕ) (t : List ℕ) (limit : ℕ) (c : Census) : Type 0 where
   pub used : c .limit ≡ limitOf limit
   pub rings : List (List ℕ)
   pub stand : StandExactly t (c .limit) rings
   pub numbers : Numbers n rings c
 
-abbrev pub AcceptedListing : Type 0
-AcceptedListing =
-    (n : ℕ) (t : List ℕ) (limit allowance : ℕ) (d d′ l l′ : List ℕ) (c : Census) → ListOutcome n t limit allowance d d′ l l′ c → c .answer .code ≡ 0
-    → (told : Tells n t limit c) × (l′ ≡ encode (told .rings) ++ drop (c .words) l)
-
-abbrev pub AcceptedCount : Type 0
-AcceptedCount =
-    (n : ℕ) (t : List ℕ) (limit allowance : ℕ) (d d′ : List ℕ) (c : Census) → CountOutcome n t limit allowance d d′ c → c .answer .code ≡ 0
-    → Tells n t limit c
+abbrev pub AcceptedListing : ℕ → List ℕ → ℕ → List ℕ → List ℕ → Census → Type 0
+AcceptedListing n t limit list list′ c = (counted : AcceptedCount n t limit c) × (list′ ≡ encode (counted .rings) ++ drop (c .words) list)

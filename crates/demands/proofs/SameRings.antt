@@ -15,10 +15,12 @@ use Rattle.renumber.proofs.Outcomes.{accepts}
 use Rattle.renumber.proofs.Carried.{call-carries}
 use Rattle.ring.specs.Maxima.{ringMost}
 use Rattle.census.specs.declared.Census.{Census}
-use Rattle.census.specs.Census.{limitOf, beforeSearch, encode, countsOf, noCensus, settled, afterCount, afterList, Searched, Outcome}
-use Rattle.census.proofs.Settled.{code}
-use Rattle.demands.specs.Renumbering.{SameRings, RenumberThenList, RenumberThenCount}
-use Rattle.demands.proofs.Searches.{encode-words, before-network, lists-rings}
+use Rattle.census.specs.Census.{limitOf, beforeSearch, encode, countsOf, noCensus, settled, afterCount, afterList, Searched, Outcome, CountOutcome, ListOutcome}
+use Rattle.census.proofs.Settled.{code, encode-words}
+use Rattle.demands.specs.declared.renumbering.HereAndThere.{HereAndThere}
+use Rattle.demands.specs.Renumbering.{RenumberThenList, RenumberThenCount}
+use Rattle.demands.proofs.Searches.{before-network, lists-rings}
+use Rattle.demands.proofs.Meets.{count-met, list-met, renumber-met}
 
 map-alike : (f g : ℕ → ℕ) (ks : List ℕ) → ((k : ℕ) → f k ≡ g k) → map f ks ≡ map g ks
 map-alike f g [] h = refl
@@ -58,26 +60,38 @@ module _ (n : ℕ) (t names before after : List ℕ) (a : Answer) (R : renumber.
           | no y ↦ O .refused y .0 ∙ ap noCensus checks ∙ sym (P .refused (λ w. y (ap (λ (x : Answer). x .code) checks ∙ w)) .0)
         ]
 
-pub renumber-then-count : RenumberThenCount
-renumber-then-count n t names before after a R z limit allowance d d′ e e′ c c′ O P same =
-    same-census n t names before after a R z limit allowance d d′ e e′ c c′ same (afterCount allowance) (afterCount allowance) (λ xs ys all words. rw all refl) O P
+pub renumber-then-count : (n : ℕ) (t names renamed renamed′ : List ℕ) (limit allowance : ℕ) (d d′ e e′ : List ℕ) (r : HereAndThere) → renumber.Outcome n t names renamed renamed′ (r .renumbering)
+    → CountOutcome n t limit allowance d d′ (r .here) → CountOutcome n renamed′ limit allowance e e′ (r .there) → RenumberThenCount n t names renamed renamed′ limit allowance d d′ e e′ r
+renumber-then-count n t names renamed renamed′ limit allowance d d′ e e′ r R O P = record {
+  renumbered = renumber-met n t names renamed renamed′ (r .renumbering) R;
+  counted-here = count-met n t limit allowance d d′ (r .here) O;
+  counted-there = count-met n renamed′ limit allowance e e′ (r .there) P;
+  census = λ z same. same-census n t names renamed renamed′ (r .renumbering) R z limit allowance d d′ e e′ (r .here) (r .there) same (afterCount allowance) (afterCount allowance) (λ xs ys all words. rw all refl) O P;
+}
 
-pub renumber-then-list : RenumberThenList
-renumber-then-list n t names before after a R z limit allowance d d′ e e′ l l′ m m′ c c′ O P same room = (one, rings)
+pub renumber-then-list : (n : ℕ) (t names renamed renamed′ : List ℕ) (limit allowance : ℕ) (d d′ l l′ e e′ m m′ : List ℕ) (r : HereAndThere) → renumber.Outcome n t names renamed renamed′ (r .renumbering)
+    → ListOutcome n t limit allowance d d′ l l′ (r .here) → ListOutcome n renamed′ limit allowance e e′ m m′ (r .there)
+    → RenumberThenList n t names renamed renamed′ limit allowance d d′ l l′ e e′ m m′ r
+renumber-then-list n t names renamed renamed′ limit allowance d d′ l l′ e e′ m m′ r R O P = record {
+  renumbered = renumber-met n t names renamed renamed′ (r .renumbering) R;
+  listed-here = list-met n t limit allowance d d′ l l′ (r .here) O;
+  listed-there = list-met n renamed′ limit allowance e e′ m m′ (r .there) P;
+  census = one;
+  rings = λ z same room y.
+      let X = lists-rings n t limit allowance d d′ l l′ (r .here) O y in
+      let Y = lists-rings n renamed′ limit allowance e e′ m m′ (r .there) P (ap code (sym (one z same room)) ∙ y) in
+      record {
+        xs = X .rings;
+        ys = Y .rings;
+        here = X .listing;
+        there = Y .listing;
+        list-here = X .words;
+        list-there = Y .words;
+        carried = carried n t names renamed renamed′ (r .renumbering) R z (limitOf limit) (X .rings) (Y .rings) (X .listing) (Y .listing);
+      };
+}
   where
-    one : c ≡ c′
-    one = same-census n t names before after a R z limit allowance d d′ e e′ c c′ same (afterList allowance (length l)) (afterList allowance (length m)) (λ xs ys all words. rw (all, words, room) refl) (O .census) (P .census)
-
-    rings : code c ≡ 0 → SameRings names limit t after l l′ m m′
-    rings y =
-        let X = lists-rings n t limit allowance d d′ l l′ c O y in
-        let Y = lists-rings n after limit allowance e e′ m m′ c′ P (ap code (sym one) ∙ y) in
-        record {
-          xs = X .rings;
-          ys = Y .rings;
-          here = X .listing;
-          there = Y .listing;
-          list-here = X .words;
-          list-there = Y .words;
-          carried = carried n t names before after a R z (limitOf limit) (X .rings) (Y .rings) (X .listing) (Y .listing);
-        }
+    one : r .renumbering .code ≡ 0 → length d ≡ length e → length l ≡ length m → r .here ≡ r .there
+    one z same room =
+        same-census n t names renamed renamed′ (r .renumbering) R z limit allowance d d′ e e′ (r .here) (r .there) same (afterList allowance (length l)) (afterList allowance (length m))
+        (λ xs ys all words. rw (all, words, room) refl) (O .census) (P .census)

@@ -1,4 +1,4 @@
--- What the listing program prints is what reading and listing say.
+-- What is written of a file is what reading it and listing its network say.
 use mathlib.Core.Path.{_≡_, refl, _∙_, ap, ap₂}
 use mathlib.Core.List.{List}
 use Prim.Native.Nat.{ℕ, _*_}
@@ -13,19 +13,19 @@ use Rattle.bnw.specs.declared.Reading.{Reading}
 use Rattle.bnw.specs.Reading.{Reads}
 use Rattle.bnw.proofs.RoundTrips.{read-network}
 use Rattle.text.specs.Lines.{listingText, refusalText}
-use Rattle.report.specs.Report.{tableWords, FileText}
+use Rattle.report.specs.Report.{tableWords, FileText, Responds}
 use Rattle.report.proofs.Fits.{file-text-fits}
 use Rattle.report.proofs.Texts.{listing-of-rings, text-refused, text-listed, file-refused, file-listed}
-use Rattle.report.proofs.OneText.{file-text-one, enough-is-read}
-use Rattle.demands.specs.Program.{ReadingPrinted, Printed}
+use Rattle.report.proofs.OneText.{file-text-one, responds-one, enough-is-read}
+use Rattle.demands.specs.Program.{ReadingPrinted, RespondMet, RespondFixed}
 use Rattle.demands.proofs.Searches.{lists-rings}
 
-module _ (file text table table′ : List ℕ) (r : Reading) (F : FileText file text) (R : Reads file table table′ r) (words : length table ≡ tableWords) where
+module _ (file text : List ℕ) (F : FileText file text) (table table′ : List ℕ) (r : Reading) (R : Reads file table table′ r) (words : length table ≡ tableWords) where
   -- the file's text is any that reading and listing give
   same : (other : List ℕ) → FileText file other → text ≡ other
   same other G = file-text-one file text other F G
 
-  reading-printed : ReadingPrinted file text table table′ r
+  reading-printed : ReadingPrinted table′ r text
   reading-printed = record {
     refused = λ z. same (refusalText (r .answer)) (file-refused file table table′ r R words z);
     listed = λ z d d′ l l′ c O square room.
@@ -38,20 +38,31 @@ module _ (file text table table′ : List ℕ) (r : Reading) (F : FileText file 
           listed = λ y.
               let L = lists-rings n t 0 _ d d′ l l′ c O y in
               let words-are : take (c .words) l′ ≡ encode (L .rings) =
-              ap₂ take (ap (λ (x : Census). x .words) (L .census)) (L .words) ∙ take-at (encode (L .rings)) (drop (length (encode (L .rings))) l) (length (encode (L .rings))) refl in (
+              ap₂ take (ap (λ (x : Census). x .words) (L .census)) (L .words) ∙ take-at (encode (L .rings)) (drop (length (encode (L .rings))) l) (length (encode (L .rings))) refl in
+              let text-is = listingText n m (take (c .words) l′) (c .counts) (c .total) in (
                 L .rings,
                 L .words,
-                same (listingText n m (take (c .words) l′) (c .counts) (c .total)) (file-listed file table table′ r R words (listingText n m (take (c .words) l′) (c .counts) (c .total)) z (text-listed n m t d d′ l l′ c N O square room y))
+                same text-is (file-listed file table table′ r R words text-is z (text-listed n m t d d′ l l′ c N O square room y))
                     ∙ ap (λ (ws : List ℕ). listingText n m ws (c .counts) (c .total)) words-are
                     ∙ listing-of-rings n m (L .rings) (c .counts) (c .total) (λ s i. omega (arith, L .listing .sound s i .shortest .ring .three)),
               );
         };
   }
 
-pub program-printed : Printed
-program-printed = record {
-  says = reading-printed;
-  one = file-text-one;
-  fits = file-text-fits;
+pub respond-met : (file out out′ : List ℕ) (bytes : ℕ) → Responds file out out′ bytes → RespondMet file out out′ bytes
+respond-met file out out′ bytes R = record {
+  short = R .short;
+  printed = λ room.
+      let W = R .written room in
+      (W .0, record { of-file = W .1; says = reading-printed file (W .0) (W .1); fits = file-text-fits file (W .0) (W .1) }, W .2);
+}
+
+pub respond-fixed : RespondFixed
+respond-fixed = record {
+  outcome = λ file out out′ out″ bytes more M P. responds-one file out out′ out″ bytes more (back file out out′ bytes M) (back file out out″ more P);
+  text = file-text-one;
   enough = enough-is-read;
 }
+  where
+    back : (file out out′ : List ℕ) (bytes : ℕ) → RespondMet file out out′ bytes → Responds file out out′ bytes
+    back file out out′ bytes M = record { short = M .short; written = λ room. let P = M .printed room in (P .0, P .1 .of-file, P .2) }

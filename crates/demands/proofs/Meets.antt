@@ -1,0 +1,92 @@
+-- What comes of each call, as its contract has it, meets what is demanded.
+use mathlib.Core.Path.{_≡_, refl, sym, _∙_, ap, subst}
+use mathlib.Core.List.{List}
+use Prim.Native.Nat.{ℕ}
+use native.Mathlib.Omega.{arith}
+use Rattle.network.specs.declared.Answer.{Answer}
+use Rattle.network.specs.Verdict.{verdict}
+use Rattle.network.proofs.Networks.{network-of}
+use Rattle.distance.specs.Outcome as distance
+use Rattle.candidate.specs.declared.Tested.{Tested}
+use Rattle.candidate.specs.CandidateOutcome.{CandidateOutcome}
+use Rattle.census.specs.declared.Census.{Census}
+use Rattle.census.specs.Census.{CountOutcome, ListOutcome}
+use Rattle.census.proofs.Settled.{reached}
+use Rattle.renumber.specs.Outcome as renumber
+use Rattle.bnw.specs.declared.Reading.{Reading}
+use Rattle.bnw.specs.declared.Written.{Written}
+use Rattle.bnw.specs.Reading.{atomsIn, bondsIn, Reads}
+use Rattle.bnw.specs.Writing.{Writes}
+use Rattle.bnw.proofs.HeadFaults.{value-22, value-23, value-else}
+use Rattle.demands.specs.Refusals.{ValidateSays, DistancesSays, CandidateSays, RenumberSays, WriteSays}
+use Rattle.demands.specs.FileRefusals.{ReadSays}
+use Rattle.demands.specs.Calls.{ValidateMet, DistancesMet, CandidateMet, CountMet, ListMet, RenumberMet, WriteMet, ReadMet}
+use Rattle.demands.proofs.Refusals.{validate-says, distances-says, candidate-says, renumber-says, write-says}
+use Rattle.demands.proofs.SearchRefusals.{count-says, list-says, count-leaves, list-leaves}
+use Rattle.demands.proofs.FileRefusals.{read-says}
+use Rattle.demands.proofs.Rings.{accepted-count, accepted-listing}
+
+module _ (n : ℕ) (t : List ℕ) where
+  pub validate-met : (a : Answer) → a ≡ verdict n t → ValidateMet n t a
+  validate-met a h = record {
+    gives = subst (ValidateSays n t) (sym h) (validate-says n t);
+    refused = λ z. tt;
+    done = λ z. network-of n t (ap (λ (x : Answer). x .code) (sym h) ∙ z);
+  }
+
+  pub distances-met : (dist dist′ : List ℕ) (a : Answer) → distance.Outcome n t dist dist′ a → DistancesMet n t dist dist′ a
+  distances-met dist dist′ a h = record {
+    gives = subst (DistancesSays n t dist) (sym (h .answer)) (distances-says n t dist);
+    refused = h .refused;
+    done = h .filled;
+  }
+
+  pub candidate-met : (r dist dist′ : List ℕ) (c : Tested) → CandidateOutcome n t r dist dist′ c → CandidateMet n t r dist dist′ c
+  candidate-met r dist dist′ c h = record {
+    gives = subst (CandidateSays n t r dist) (sym (h .answer)) (candidate-says n t r dist);
+    refused = h .refused;
+    done = λ z. (h .filled z, h .says z);
+  }
+
+  module _ (limit allowance : ℕ) (dist dist′ : List ℕ) where
+    pub count-met : (c : Census) → CountOutcome n t limit allowance dist dist′ c → CountMet n t limit allowance dist dist′ c
+    count-met c h = record {
+      gives = count-says n t limit allowance dist dist′ c h;
+      refused = count-leaves n t limit allowance dist dist′ c h;
+      done = λ z. (reached h z .filled, accepted-count n t limit allowance dist dist′ c h z);
+    }
+
+    pub list-met : (list list′ : List ℕ) (c : Census) → ListOutcome n t limit allowance dist dist′ list list′ c → ListMet n t limit allowance dist dist′ list list′ c
+    list-met list list′ c h = record {
+      gives = list-says n t limit allowance dist dist′ list list′ c h;
+      refused = λ z. (list-leaves n t limit allowance dist dist′ list list′ c h z, h .kept z);
+      done = λ z. (reached (h .census) z .filled, accepted-listing n t limit allowance dist dist′ list list′ c h z);
+    }
+
+  pub renumber-met : (names renamed renamed′ : List ℕ) (a : Answer) → renumber.Outcome n t names renamed renamed′ a → RenumberMet n t names renamed renamed′ a
+  renumber-met names renamed renamed′ a h = record {
+    gives = subst (RenumberSays n t names renamed) (sym (h .answer)) (renumber-says n t names renamed);
+    refused = h .refused;
+    done = h .renumbered;
+  }
+
+  pub write-met : (file file′ : List ℕ) (w : Written) → Writes n t file file′ w → WriteMet n t file file′ w
+  write-met file file′ w h = record {
+    gives = subst (WriteSays n t file) (sym (h .verdict)) (write-says n t file);
+    refused = h .refused;
+    done = λ z. (h .number z, h .written z);
+  }
+
+pub read-met : (file table table′ : List ℕ) (r : Reading) → Reads file table table′ r → ReadMet file table table′ r
+read-met file table table′ r h = record {
+  gives = subst (ReadSays file table) (sym (h .verdict)) (read-says file table);
+  refused = λ z. record {
+    atoms = h .refused z .0;
+    bonds = h .refused z .1;
+    stays = h .refused z .2;
+    value-22 = λ e. h .signs ∙ sym (value-22 file (r .answer .code) e (atomsIn file) refl);
+    value-23 = λ e. h .signs ∙ sym (value-23 file (r .answer .code) (λ g. omega (arith, e, g)) e (bondsIn file) refl);
+    value-else = λ e f. h .signs ∙ sym (value-else file (r .answer .code) e f);
+  };
+  done = λ z. (h .accepts z, h .signs ∙ sym (value-else file (r .answer .code) (λ e. omega (arith, z, e)) (λ e. omega (arith, z, e))));
+}
