@@ -1,6 +1,6 @@
 -- A byte buffer on which a text is written.
 --
---   page pen bytes      the buffer with the pen over it
+--   Page, page pen bytes    the buffer with the pen over it
 --   start               the pen at the first byte
 --   put b s             the byte b is written at the pen, where there is room and nothing was left out before
 --   putAll bs s         the bytes bs, one after another
