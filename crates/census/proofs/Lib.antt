@@ -1,4 +1,4 @@
--- Laws of what counting and listing answer: averages by their values (MeanValues), 0 rings per atom (Quotients), the checks before the
+-- Laws of what counting and listing answer: averages by their values (MeanValues), casts without loss and 0 rings per atom (Quotients), the checks before the
 -- search (Passed), an accepted census (Settled), one outcome of each call (OneOutcome).
 pub mod MeanValues
 pub mod Quotients

@@ -1,16 +1,24 @@
--- Where there are no rings, rings per atom is +0.0, for every number of atoms: the checker computes the quotients.
+-- The numbers of a quotient are cast without loss. Where there are no rings, rings per atom is +0.0, for every number of atoms: the
+-- checker computes the quotients.
 use mathlib.Core.Path.{_≡_, refl}
 use mathlib.Core.Bool.{Bool, true, false}
-use Prim.Native.Nat.{ℕ, zero, suc}
+use Prim.Native.Nat.{ℕ, zero, suc, _^_, _<_}
 use native.Mathlib.Omega.{arith}
 use lib.Dec.{T}
 use lib.IntN.{pos, negsuc}
-use lib.Ieee.{Float, nan, inf, fin, div, ofInt, ofBits}
+use lib.Ieee.{Float, nan, inf, fin, binary64, div, ofInt, ofBits}
+use lib.Ieee.Exact.{HasValue}
+use lib.Ieee.Back.{round-whole}
 use Rattle.graph.specs.Lists.{count}
 use Rattle.graph.proofs.Lists.{every-of, count-has}
 use Rattle.network.specs.Maxima.{atomsMost}
 use Rattle.network.specs.Network.{Counted}
 use Rattle.census.specs.Averages.{quotient, plusZero}
+
+-- a whole number of 32 bits, as a float, has its value: the number over 1
+pub cast-exact : (a : ℕ) → a < 2 ^ 32 → HasValue (ofInt binary64 (pos a)) false a 1
+unfolding ofInt
+cast-exact a h = round-whole binary64 false a (omega (arith, h))
 
 -- 0 with the sign plus
 abbrev isPlusZero : Float → Bool

@@ -1,6 +1,6 @@
 -- What is written of a file is what reading it and listing its network say.
-use mathlib.Core.Path.{_≡_, refl, _∙_, ap, ap₂}
-use mathlib.Core.List.{List}
+use mathlib.Core.Path.{_≡_, refl, sym, _∙_, ap, ap₂}
+use mathlib.Core.List.{List, _++_}
 use Prim.Native.Nat.{ℕ, _*_}
 use native.Mathlib.Omega.{arith}
 use lib.ListN.{length, take, drop}
@@ -20,29 +20,31 @@ use Rattle.report.proofs.OneText.{file-text-one, responds-one, enough-is-read}
 use Rattle.demands.specs.Program.{ReadingPrinted, RespondMet, RespondFixed}
 use Rattle.demands.proofs.Searches.{lists-rings}
 
-module _ (file text : List ℕ) (F : FileText file text) (table table′ : List ℕ) (r : Reading) (R : Reads file table table′ r) (words : length table ≡ tableWords) where
+module _ (file text : List ℕ) (F : FileText file text) (table table′ : List ℕ) (r : Reading) (R : Reads file table table′ r) (room-read : length table ≡ tableWords) where
   -- the file's text is any that reading and listing give
   same : (other : List ℕ) → FileText file other → text ≡ other
   same other G = file-text-one file text other F G
 
   reading-printed : ReadingPrinted table′ r text
   reading-printed = record {
-    refused = λ z. same (refusalText (r .answer)) (file-refused file table table′ r R words z);
+    refused = λ z. same (refusalText (r .answer)) (file-refused file table table′ r R room-read z);
     listed = λ z d d′ l l′ c O square room.
         let n = r .atoms in
         let m = r .bonds in
         let t = take (places * n) table′ in
         let N : IsNetwork n t = read-network file table table′ r R z in
         record {
-          refused = λ y. same (refusalText (c .answer)) (file-listed file table table′ r R words (refusalText (c .answer)) z (text-refused n m t d d′ l l′ c N O square room y));
+          refused = λ y. same (refusalText (c .answer)) (file-listed file table table′ r R room-read (refusalText (c .answer)) z (text-refused n m t d d′ l l′ c N O square room y));
           listed = λ y.
               let L = lists-rings n t 0 _ d d′ l l′ c O y in
+              let words : c .words ≡ length (encode (L .rings)) = ap (λ (x : Census). x .words) (L .census) in
               let words-are : take (c .words) l′ ≡ encode (L .rings) =
-              ap₂ take (ap (λ (x : Census). x .words) (L .census)) (L .words) ∙ take-at (encode (L .rings)) (drop (length (encode (L .rings))) l) (length (encode (L .rings))) refl in
+              ap₂ take words (L .words) ∙ take-at (encode (L .rings)) (drop (length (encode (L .rings))) l) (length (encode (L .rings))) refl in
               let text-is = listingText n m (take (c .words) l′) (c .counts) (c .total) in (
                 L .rings,
-                L .words,
-                same text-is (file-listed file table table′ r R words text-is z (text-listed n m t d d′ l l′ c N O square room y))
+                sym words,
+                L .words ∙ ap (λ (k : ℕ). encode (L .rings) ++ drop k l) (sym words),
+                same text-is (file-listed file table table′ r R room-read text-is z (text-listed n m t d d′ l l′ c N O square room y))
                     ∙ ap (λ (ws : List ℕ). listingText n m ws (c .counts) (c .total)) words-are
                     ∙ listing-of-rings n m (L .rings) (c .counts) (c .total) (λ s i. omega (arith, L .listing .sound s i .shortest .ring .three)),
               );

@@ -1,5 +1,5 @@
 -- What is demanded of the library, as src/ ensures it of the calls: Calls with the answers in Refusals and FileRefusals, Rings, Files,
--- Renumbering. That it fixes the outcome, and the examples: Demands.
+-- Program, Renumbering. That it fixes the outcome, and the examples: Demands.
 pub mod Refusals
 pub mod FileRefusals
 pub mod Rings

@@ -28,7 +28,8 @@ use Rattle.demands.specs.Files.{rowsRead}
 pub record ListingPrinted (n bonds : ℕ) (l l′ : List ℕ) (c : Census) (text : List ℕ) : Type 0 where
   pub refused : (c .answer .code ≡ 0 → ⊥) → text ≡ refusalText (c .answer)
   pub listed : c .answer .code ≡ 0 → (rings : List (List ℕ))
-      × (l′ ≡ encode rings ++ drop (length (encode rings)) l)
+      × (length (encode rings) ≡ c .words)
+      × (l′ ≡ encode rings ++ drop (c .words) l)
       × (text ≡ sizesText n bonds ++ (gather ringText rings ++ (countsText 0 (c .counts) ++ totalText (c .total))))
 
 pub record ReadingPrinted (table′ : List ℕ) (r : Reading) (text : List ℕ) : Type 0 where

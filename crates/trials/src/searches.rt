@@ -26,6 +26,7 @@ fn limits(figure: &[u16]) {
 // Fig. 1, which has four rings, at the borders of the allowance.
 fn allowances(figure: &[u16]) {
     count(figure, 0);
+    rings(7, figure, 3, 1);
     count(figure, 3);
     count(figure, 4);
     rings(7, figure, 0, Ring::ALLOWANCE);
