@@ -13,11 +13,10 @@ use Rattle.network.proofs.Networks.{network-of}
 use Rattle.examples.specs.Examples.{ExampleHolds, P2}
 use Rattle.examples.specs.Examples as examples
 use Rattle.examples.proofs.Examples.{examples-hold}
-use Rattle.census.specs.Census.{limitOf, encode, countsOf}
+use Rattle.census.specs.Census.{encode, countsOf}
 use Rattle.census.proofs.Passed.{limit-default}
-use Rattle.bnw.specs.File.{bondAt, bondsOf, tableOf}
+use Rattle.bnw.specs.File.{bondAt, bondsOf, partner, partners, tableOf}
 use Rattle.bnw.specs.Reading.{signed, outside, marked, headFault, earlier, inside, follows, full, bondFault, orAt, firstBond, readVerdict}
-use Rattle.bnw.specs.File.{partner, partners}
 use Rattle.bnw.proofs.Returns.{bonds-valid, table-back}
 use Rattle.text.specs.Letters.{letters}
 use Rattle.text.specs.Lines.{digits, sizesText, ringText, countText, countsText, totalText, refusalText}

@@ -4,7 +4,7 @@
 --   file-text-one       two texts of a file are the same
 --   responds-one        two outcomes of responding to a file are the same
 --   enough-is-read      the text of a file's first `fileBytes` bytes is the text of the file
-use mathlib.Core.Path.{_≡_, refl, sym, _∙_, ap, ap₂, subst}
+use mathlib.Core.Path.{_≡_, sym, _∙_, ap, subst}
 use mathlib.Core.Logic.{_↔_}
 use mathlib.Core.List.{List, _++_}
 use Prim.Native.Nat.{ℕ, _≤_}
@@ -22,7 +22,7 @@ use Rattle.bnw.specs.Reading.{Bytes, readVerdict}
 use Rattle.bnw.proofs.RoundTrips.{file-atoms, file-bonds}
 use Rattle.bnw.proofs.Longer.{longer-refused, first-judged}
 use Rattle.text.specs.Lines.{refusalText}
-use Rattle.report.specs.Report.{fileBytes, tableWords, listWords, textBytes, settledText, ListingText, FileText, Stands, Responds}
+use Rattle.report.specs.Report.{fileBytes, tableWords, listWords, textBytes, settledText, ListingText, FileText, Responds}
 
 pub listing-text-one : (n bonds : ℕ) (t s u : List ℕ) → ListingText n bonds t s → ListingText n bonds t u → s ≡ u
 listing-text-one n bonds t s u L M =

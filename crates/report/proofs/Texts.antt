@@ -3,17 +3,17 @@ use mathlib.Core.Path.{_≡_, refl, sym, _∙_, ap, ap₂, subst}
 use mathlib.Core.List.{List, [], _∷_, _++_}
 use Prim.Native.Nat.{ℕ, _*_, _≤_, _<_}
 use native.Mathlib.Omega.{arith}
-use borrow.Author.Tests.{eq-eqb, ne-eqb, le-ltb}
+use borrow.Author.Tests.{eq-eqb, ne-eqb}
 use lib.ListN.{length, take, drop}
 use lib.Seq.{take-at}
 use Rattle.graph.specs.Lists.{_∈_, gather}
 use Rattle.graph.proofs.Lists.{sets-front}
 use Rattle.network.specs.declared.Answer.{Answer}
 use Rattle.network.specs.Maxima.{places}
-use Rattle.network.specs.Network.{Bonded, IsNetwork}
+use Rattle.network.specs.Network.{IsNetwork}
 use Rattle.ring.specs.Maxima.{allowanceMost}
 use Rattle.census.specs.declared.Census.{Census}
-use Rattle.census.specs.Census.{limitOf, encode, countsOf, censusOf, afterList, Searched, ListOutcome}
+use Rattle.census.specs.Census.{encode, countsOf, afterList, Searched, ListOutcome}
 use Rattle.census.proofs.Passed.{limit-default, reached-exactly}
 use Rattle.census.proofs.Settled.{code, told-accepted, told-refused, room-enough}
 use Rattle.bnw.specs.declared.Reading.{Reading}
@@ -25,7 +25,7 @@ use Rattle.text.specs.Page.{Page, page, start, putAll}
 use Rattle.text.specs.Lines.{ringText, wordsText, sizesText, countsText, totalText, listingText, refusalText}
 use Rattle.text.proofs.Pages.{text-fits}
 use Rattle.text.proofs.Spelled.{rings-text}
-use Rattle.report.specs.Report.{tableWords, listWords, textBytes, ringsText, settledText, ListingText, NetworkText, FileText, Stands, ListsText, Responds}
+use Rattle.report.specs.Report.{tableWords, listWords, textBytes, ringsText, ListingText, FileText, Stands, ListsText, Responds}
 use Rattle.report.proofs.Fits.{refusal-fits, listing-text-fits}
 
 -- a text that is written from the first byte on stands there, where it fits
