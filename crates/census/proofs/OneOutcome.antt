@@ -15,27 +15,46 @@ use Rattle.network.specs.Network.{Bonded}
 use Rattle.network.specs.Verdict.{check, accepted}
 use Rattle.distance.proofs.Outcomes.{table-unique}
 use Rattle.census.specs.declared.Census.{Census}
-use Rattle.census.specs.Census.{encode, limitOf, beforeSearch, afterCount, afterList, settled, Searched, Outcome, CountOutcome, ListOutcome}
+use Rattle.census.specs.Census.{encode, limitOf, beforeSearch, afterCount, afterList, settle, settled, SearchReached, SearchOutcome, ListingOutcome, CensusOutcome, CountOutcome, ListOutcome}
 use Rattle.census.specs.Prepared.{Prepared}
 use Rattle.census.proofs.Settled.{code, unrefused, reached}
 
-module _ (n : ℕ) (t : List ℕ) (limit allowance : ℕ) (before : List ℕ) where
-  -- two searches of one network find one list of rings, and leave one table
-  searched-once : (f g : List (List ℕ) → Answer) (c e : Census) → ((rings : List (List ℕ)) → e ≡ settled n limit (g rings) rings → f rings ≡ g rings)
-      → (after after′ : List ℕ) → Searched n t limit f after c → Searched n t limit g after′ e → (c ≡ e) × (after ≡ after′)
-  searched-once f g c e alike after after′ S R =
-      let same : S .rings ≡ R .rings = ring-listing-unique (Bonded t) (limitOf limit) (S .rings) (R .rings) (S .listing) (R .listing) in (
-        S .says ∙ rw (same, alike (R .rings) (R .says)) (sym (R .says)),
-        table-unique n t after after′ (S .filled) (R .filled),
-      )
+-- over any form of network: one listing, one outcome
+module _ {Ring : Type 0} {IsListing : List Ring → Type 0} {census : List Ring → Census} (unique : (xs ys : List Ring) → IsListing xs → IsListing ys → xs ≡ ys)
+    (f g : List Ring → Answer) (c e : Census) (alike : (rings : List Ring) → e ≡ settle (g rings) (census rings) → f rings ≡ g rings) {Filled Filled′ : Type 0} where
+  searched-once : SearchReached IsListing census f Filled c → SearchReached IsListing census g Filled′ e → c ≡ e
+  searched-once S R =
+      let same : S .rings ≡ R .rings = unique (S .rings) (R .rings) (S .listing) (R .listing) in
+      S .says ∙ rw (same, alike (R .rings) (R .says)) (sym (R .says))
 
-  outcome-once : (f g : List (List ℕ) → Answer) (c e : Census) → ((rings : List (List ℕ)) → e ≡ settled n limit (g rings) rings → f rings ≡ g rings)
-      → (after after′ : List ℕ) → Outcome n t limit allowance f before after c → Outcome n t limit allowance g before after′ e → (c ≡ e) × (after ≡ after′)
-  outcome-once f g c e alike after after′ O Q =
-      elim (ℕ-discrete (beforeSearch n t limit allowance before .code) 0) [
-        | yes z ↦ searched-once f g c e alike after after′ (O .searched z) (Q .searched z)
-        | no z ↦ (O .refused z .0 ∙ sym (Q .refused z .0), O .refused z .1 ∙ sym (Q .refused z .1))
+  pub census-once : {b : Answer} {Kept Kept′ : Type 0} → SearchOutcome IsListing census b f Kept Filled c → SearchOutcome IsListing census b g Kept′ Filled′ e → c ≡ e
+  census-once {b} O Q =
+      elim (ℕ-discrete (b .code) 0) [
+        | yes z ↦ searched-once (O .searched z) (Q .searched z)
+        | no z ↦ O .refused z .0 ∙ sym (Q .refused z .0)
       ]
+
+-- one list buffer
+pub words-once : {Ring : Type 0} {IsListing : List Ring → Type 0} {census : List Ring → Census} {words : List Ring → List ℕ} {allowance : ℕ} {b : Answer}
+    {Kept Kept′ Filled Filled′ : Type 0} (l l′ l″ : List ℕ) (c e : Census) → c ≡ e
+    → ListingOutcome IsListing census words allowance b Kept Filled l l′ c → ListingOutcome IsListing census words allowance b Kept′ Filled′ l l″ e → l′ ≡ l″
+words-once l l′ l″ c e same O Q =
+    elim (ℕ-discrete (code c) 0) [
+      | yes z ↦ (let S = reached (O .census) z in O .written z (S .rings) (S .listing) ∙ sym (Q .written (ap code (sym same) ∙ z) (S .rings) (S .listing)))
+      | no z ↦ O .kept z ∙ sym (Q .kept (λ y. z (ap code same ∙ y)))
+    ]
+
+-- in a network of atoms
+module _ (n : ℕ) (t : List ℕ) (limit allowance : ℕ) (before : List ℕ) where
+  outcome-once : (f g : List (List ℕ) → Answer) (c e : Census) → ((rings : List (List ℕ)) → e ≡ settled n limit (g rings) rings → f rings ≡ g rings)
+      → (after after′ : List ℕ) → CensusOutcome n t limit allowance f before after c → CensusOutcome n t limit allowance g before after′ e → (c ≡ e) × (after ≡ after′)
+  outcome-once f g c e alike after after′ O Q = (
+    census-once (ring-listing-unique (Bonded t) (limitOf limit)) f g c e alike O Q,
+    elim (ℕ-discrete (beforeSearch n t limit allowance before .code) 0) [
+      | yes z ↦ table-unique n t after after′ (O .searched z .filled) (Q .searched z .filled)
+      | no z ↦ O .refused z .1 ∙ sym (Q .refused z .1)
+    ],
+  )
 
   -- one outcome of the checks before the search
   pub prepared-once : (after after′ : List ℕ) (a b : Answer) → Prepared n t limit allowance before after a → Prepared n t limit allowance before after′ b → (a ≡ b) × (after ≡ after′)
@@ -57,14 +76,8 @@ module _ (n : ℕ) (t : List ℕ) (limit allowance : ℕ) (before : List ℕ) wh
     -- one outcome of listing
     pub list-once : (after after′ l′ l″ : List ℕ) (c e : Census) → ListOutcome n t limit allowance before after l l′ c → ListOutcome n t limit allowance before after′ l l″ e → (c ≡ e) × (after ≡ after′) × (l′ ≡ l″)
     list-once after after′ l′ l″ c e O Q =
-        let both = outcome-once (afterList allowance (length l)) (afterList allowance (length l)) c e (λ _ _. refl) after after′ (O .census) (Q .census) in (
-          both .0,
-          both .1,
-          elim (ℕ-discrete (code c) 0) [
-            | yes z ↦ (let S = reached (O .census) z in O .written z (S .rings) (S .listing) ∙ sym (Q .written (ap code (sym (both .0)) ∙ z) (S .rings) (S .listing)))
-            | no z ↦ O .kept z ∙ sym (Q .kept (λ y. z (ap code (both .0) ∙ y)))
-          ],
-        )
+        let both = outcome-once (afterList allowance (length l)) (afterList allowance (length l)) c e (λ _ _. refl) after after′ (O .census) (Q .census) in
+        (both .0, both .1, words-once l l′ l″ c e (both .0) O Q)
 
     alike : (e : Census) → (code e ≡ 13 → ⊥) → (rings : List (List ℕ)) → e ≡ settled n limit (afterList allowance (length l) rings) rings → afterCount allowance rings ≡ afterList allowance (length l) rings
     alike e z rings h = go (ltb allowance (length rings)) (ltb (length l) (length (encode rings))) h

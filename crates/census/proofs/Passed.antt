@@ -3,13 +3,12 @@ use mathlib.Core.Path.{_≡_, refl, sym, _∙_, ap}
 use mathlib.Core.Logic.{_↔_}
 use mathlib.Core.Bool.{Bool, true, false, true≢false}
 use mathlib.Core.List.{List}
-use Prim.Native.Nat.{ℕ, _*_, _≤_, _<_}
+use Prim.Native.Nat.{ℕ, _≤_, _<_}
 use native.Mathlib.Omega.{arith}
 use native.Mathlib.Decide.{ℕ-discrete, decLe}
-use lib.ListN.{length}
 use borrow.Author.Tests.{eq-eqb, ne-eqb, le-leb, lt-leb}
 use Rattle.network.specs.declared.Answer.{Answer}
-use Rattle.network.specs.Network.{Counted, IsNetwork}
+use Rattle.network.specs.Network.{Counted}
 use Rattle.network.specs.Verdict.{check, refusal, atomsOf, notAtoms}
 use Rattle.network.proofs.Verdicts.{atoms, no-atoms, some-atoms}
 use Rattle.distance.specs.Outcome.{distanceVerdict}
@@ -17,7 +16,7 @@ use Rattle.distance.proofs.Outcomes.{accepted-exactly}
 use Rattle.distance.specs.Outcome as distance
 use Rattle.ring.specs.Maxima.{ringLeast, ringMost, limitDefault, allowanceMost}
 use Rattle.census.specs.Census.{limitOf, notLimit, notAllowance, beforeSearch}
-use Rattle.census.specs.Prepared.{Prepared}
+use Rattle.census.specs.Prepared.{Prepared, Passed}
 
 -- the limit and the allowance
 
@@ -118,14 +117,6 @@ module _ (n : ℕ) (t : List ℕ) (limit allowance : ℕ) (d : List ℕ) where
           }
 
 -- what passing the checks says
-
-pub record Passed (n : ℕ) (t : List ℕ) (limit allowance : ℕ) (d : List ℕ) : Type 0 where
-  pub network : IsNetwork n t
-  pub room : length d ≡ n * n
-  pub least : ringLeast ≤ limitOf limit
-  pub most : limitOf limit ≤ ringMost
-  pub some : 1 ≤ allowance
-  pub bounded : allowance ≤ allowanceMost
 
 check-passed : (c : ℕ) (bad : Bool) (later : Answer) → (c ≡ 0 → ⊥) → check c bad later .code ≡ 0 → (bad ≡ false) × (later .code ≡ 0)
 check-passed c true later z h = absurd (z h)

@@ -13,7 +13,7 @@ use Rattle.network.proofs.Networks.{network-of}
 use Rattle.examples.specs.Examples.{ExampleHolds, P2}
 use Rattle.examples.specs.Examples as examples
 use Rattle.examples.proofs.Examples.{examples-hold}
-use Rattle.census.specs.Census.{encode, countsOf}
+use Rattle.census.specs.Census.{encodeBy, countsBy}
 use Rattle.census.proofs.Passed.{limit-default}
 use Rattle.bnw.specs.File.{bondAt, bondsOf, partner, partners, tableOf}
 use Rattle.bnw.specs.Reading.{signed, outside, marked, headFault, earlier, inside, follows, full, bondFault, orAt, firstBond, readVerdict}
@@ -41,7 +41,7 @@ unfolding readVerdict headFault marked outside signed bondFault inside follows e
 figure-accepted = refl
 
 figure-listing : ListingText 7 (length (bondsOf table)) table nineLines
-unfolding bondsOf bondAt ringsText sizesText ringText countText countsText totalText digits encode countsOf
+unfolding bondsOf bondAt ringsText sizesText ringText countText countsText totalText digits encodeBy countsBy
 figure-listing = record {
   rings = P2 .rings;
   listing = subst (λ (k : ℕ). RingListing (Bonded table) k (P2 .rings)) (limit-default 0 refl) (holds .listing);

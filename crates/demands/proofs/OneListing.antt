@@ -1,15 +1,14 @@
 -- One list of rings, and so one census and one list buffer, are what is demanded of a search that is accepted.
 use mathlib.Core.Path.{_≡_, refl, sym, _∙_, ap, subst}
-use mathlib.Core.List.{List, [], _++_}
-use Prim.Native.Nat.{ℕ, _-_}
+use mathlib.Core.List.{List, _++_}
+use Prim.Native.Nat.{ℕ}
 use native.Mathlib.Omega.{arith}
 use lib.Ieee.{Float}
 use lib.ListN.{length, drop}
-use Rattle.graph.specs.Lists.{_∈_}
-use Rattle.graph.specs.Counts.{sumOf, wordsOf}
+use Rattle.graph.specs.Counts.{lengthsOf, wordsOf}
 use Rattle.graph.specs.Listing.{RingListing}
-use Rattle.graph.proofs.Lists.{place-of, at-place}
-use Rattle.graph.proofs.Listings.{ring-listing-unique}
+use Rattle.graph.proofs.Listings.{ring-order-strict, ring-listing-unique}
+use Rattle.graph.proofs.Standing.{listing-of}
 use Rattle.graph.proofs.Readings.{reading-self}
 use Rattle.graph.proofs.Writings.{writing-unique}
 use Rattle.network.specs.declared.Answer.{Answer}
@@ -20,55 +19,24 @@ use Rattle.census.specs.declared.Mean.{Mean}
 use Rattle.census.specs.Averages.{quotient, meanOf}
 use Rattle.census.proofs.MeanValues.{mean-told}
 use Rattle.census.proofs.Settled.{encode-words}
-use Rattle.census.specs.Census.{limitOf, encode, countsOf, censusOf}
-use Rattle.demands.specs.Rings.{StandsOnce, StandExactly, AcceptedCount, AcceptedListing}
-use Rattle.demands.proofs.Searches.{lengths-words}
-use Rattle.demands.proofs.Rings.{one-place}
-
--- a list in which exactly these rings stand is their listing
-module _ (t : List ℕ) (limit : ℕ) (rings : List (List ℕ)) (S : StandExactly t limit rings) where
-  -- what stands in the list stands there once
-  itself : (r : List ℕ) → r ∈ rings → StandsOnce rings r
-  itself r m =
-      let R = S .cycles r m .0 in
-      let self = reading-self 0 r (omega (arith, R .three)) in
-      let p = place-of [] m in
-      record {
-        writing = r;
-        reading = self;
-        place = p .0;
-        in-list = p .1;
-        stands = p .2;
-        only = λ s i U k e.
-            let q : s ≡ r = writing-unique r s r U self (S .written s (subst (λ v. v ∈ rings) e (at-place [] rings i k))) (S .written r m) (R .three) in
-            (q, one-place rings (S .order) i (p .0) k (p .1) (e ∙ q ∙ sym (p .2)));
-      }
-
-  pub listing-of : RingListing (Bonded t) limit rings
-  listing-of = record {
-    sound = λ r m. (let C = S .cycles r m in record { within = C .1; shortest = record { ring = C .0; shortest = S .exactly r (C .0) (C .1) .1 (itself r m) }; written = S .written r m });
-    complete = λ r W.
-        let R = W .shortest .ring in
-        let O = S .exactly r R (W .within) .0 (W .shortest .shortest) in
-        let m : O .writing ∈ rings = subst (λ v. v ∈ rings) (O .stands) (at-place [] rings (O .place) (O .in-list)) in
-        subst (λ v. v ∈ rings) (writing-unique r (O .writing) r (O .reading) (reading-self 0 r (omega (arith, R .three))) (S .written (O .writing) m) (W .written) (R .three)) m;
-    ascending = S .order;
-  }
+use Rattle.census.specs.Census.{limitOf, encode, countsBy, countsOf, censusOf}
+use Rattle.demands.specs.Rings.{AcceptedCount, AcceptedListing}
 
 told-listing : (n : ℕ) (t : List ℕ) (limit : ℕ) (c : Census) (A : AcceptedCount n t limit c) → RingListing (Bonded t) (limitOf limit) (A .rings)
-told-listing n t limit c A = subst (λ k. RingListing (Bonded t) k (A .rings)) (A .used) (listing-of t (c .limit) (A .rings) (A .stand))
+told-listing n t limit c A = subst (λ k. RingListing (Bonded t) k (A .rings)) (A .used)
+    (listing-of ring-order-strict (c .limit) (A .rings) (λ r h. reading-self 0 r (omega arith)) (λ r s u h R U v w. writing-unique r s u R U v w h) (A .stand))
 
 -- so its numbers are those of the one list
 abbrev numbered : Answer → ℕ → List ℕ → ℕ → ℕ → Float → Mean → Census
 numbered a limit counts total words per-atom mean = record { answer = a; limit = limit; counts = counts; total = total; words = words; averages = record { «per_atom» = per-atom; mean = mean } }
 
 told-census : (n : ℕ) (t : List ℕ) (limit : ℕ) (c : Census) (A : AcceptedCount n t limit c)
-    → c ≡ numbered (c .answer) (limitOf limit) (countsOf (A .rings)) (length (A .rings)) (wordsOf (A .rings)) (quotient (length (A .rings)) n) (meanOf (length (A .rings)) (sumOf (λ k. k) (A .rings)))
-unfolding countsOf
+    → c ≡ numbered (c .answer) (limitOf limit) (countsOf (A .rings)) (length (A .rings)) (wordsOf (A .rings)) (quotient (length (A .rings)) n) (meanOf (length (A .rings)) (lengthsOf (A .rings)))
+unfolding countsBy
 told-census n t limit c A =
     let N = A .numbers in
     let own : c ≡ numbered (c .answer) (c .limit) (c .counts) (c .total) (c .words) (c .averages .«per_atom») (c .averages .mean) = refl in
-    own ∙ rw (A .used, N .counts, N .total, N .words, N .per-atom, mean-told (c .averages .mean) (meanOf (length (A .rings)) (sumOf (λ k. k) (A .rings))) (N .mean)) refl
+    own ∙ rw (A .used, N .counts, N .total, N .words, N .per-atom, mean-told (c .averages .mean) (meanOf (length (A .rings)) (lengthsOf (A .rings))) (N .mean)) refl
 
 pub one-count : (n : ℕ) (t : List ℕ) (limit : ℕ) (c c′ : Census) → c .answer ≡ c′ .answer → AcceptedCount n t limit c → AcceptedCount n t limit c′ → c ≡ c′
 one-count n t limit c c′ e A B =
@@ -87,5 +55,5 @@ pub told-rings : (n : ℕ) (t : List ℕ) (limit : ℕ) (list list′ : List ℕ
     → AcceptedListing n t limit list list′ c → (c ≡ censusOf n limit rings) × (list′ ≡ encode rings ++ drop (length (encode rings)) list)
 told-rings n t limit list list′ c rings X ok A =
     let same : A .0 .rings ≡ rings = ring-listing-unique (Bonded t) (limitOf limit) (A .0 .rings) rings (told-listing n t limit c (A .0)) X in
-    let says : c ≡ censusOf n limit rings = told-census n t limit c (A .0) ∙ rw (ok, same, lengths-words rings, encode-words rings) refl in
+    let says : c ≡ censusOf n limit rings = told-census n t limit c (A .0) ∙ rw (ok, same, encode-words rings) refl in
     (says, A .1 ∙ rw (same, ap (λ (x : Census). x .words) says) refl)

@@ -5,17 +5,17 @@ use Prim.Native.Nat.{ℕ, _+_}
 use native.Mathlib.Decide.{ℕ-discrete}
 use lib.ListN.{length}
 use Rattle.graph.specs.Lists.{count}
-use Rattle.graph.specs.Counts.{ofLength}
+use Rattle.graph.specs.Counts.{ofLength, lengthsOf}
 use Rattle.graph.specs.Listing.{RingListing}
 use Rattle.network.specs.declared.Answer.{Answer}
 use Rattle.network.specs.Network.{Bonded, IsNetwork}
 use Rattle.renumber.specs.Outcome as renumber
-use Rattle.renumber.specs.Carried.{CarriedTo}
+use Rattle.renumber.specs.Carried.{RingsRenumbered}
 use Rattle.renumber.proofs.Outcomes.{accepts}
 use Rattle.renumber.proofs.Carried.{call-carries}
 use Rattle.ring.specs.Maxima.{ringMost}
 use Rattle.census.specs.declared.Census.{Census}
-use Rattle.census.specs.Census.{limitOf, beforeSearch, encode, countsOf, noCensus, settled, afterCount, afterList, Searched, Outcome, CountOutcome, ListOutcome}
+use Rattle.census.specs.Census.{limitOf, beforeSearch, encode, countsBy, countsOf, noCensus, settled, afterCount, afterList, Searched, CensusOutcome, CountOutcome, ListOutcome}
 use Rattle.census.proofs.Settled.{code, encode-words}
 use Rattle.demands.specs.declared.renumbering.HereAndThere.{HereAndThere}
 use Rattle.demands.specs.Renumbering.{RenumberThenList, RenumberThenCount}
@@ -27,19 +27,19 @@ map-alike f g [] h = refl
 map-alike f g (k ∷ ks) h = ap₂ (λ (x : ℕ) (xs : List ℕ). x ∷ xs) (h k) (map-alike f g ks h)
 
 -- lists with as many rings of each length have one census
-module _ (xs ys : List (List ℕ)) (each : (k : ℕ) → ofLength k xs ≡ ofLength k ys) (all : length xs ≡ length ys) (words : length (encode xs) ≡ length (encode ys)) where
+module _ (xs ys : List (List ℕ)) (each : (k : ℕ) → ofLength k xs ≡ ofLength k ys) (all : length xs ≡ length ys) (lengths : lengthsOf xs ≡ lengthsOf ys) (words : length (encode xs) ≡ length (encode ys)) where
   same-counts : countsOf xs ≡ countsOf ys
-  unfolding countsOf
+  unfolding countsBy
   same-counts = map-alike _ _ (count (ringMost + 1) 0) each
 
   same-settled : (n limit : ℕ) (a b : Answer) → a ≡ b → settled n limit a xs ≡ settled n limit b ys
-  same-settled n limit a b e = rw (e, same-counts, all, words)
+  same-settled n limit a b e = rw (e, same-counts, all, lengths, words)
 
 module _ (n : ℕ) (t names before after : List ℕ) (a : Answer) (R : renumber.Outcome n t names before after a) (z : a .code ≡ 0) where
   given : IsNetwork n t
   given = accepts n t names before .0 (ap (λ (x : Answer). x .code) (sym (R .answer)) ∙ z) .0
 
-  carried : (limit : ℕ) (xs ys : List (List ℕ)) → RingListing (Bonded t) limit xs → RingListing (Bonded after) limit ys → CarriedTo names xs ys
+  carried : (limit : ℕ) (xs ys : List (List ℕ)) → RingListing (Bonded t) limit xs → RingListing (Bonded after) limit ys → RingsRenumbered names xs ys
   carried = call-carries n t names before after a R z
 
   module _ (limit allowance : ℕ) (d d′ e e′ : List ℕ) (c c′ : Census) (same : length d ≡ length e) (f g : List (List ℕ) → Answer)
@@ -51,9 +51,9 @@ module _ (n : ℕ) (t names before after : List ℕ) (a : Answer) (R : renumber.
     searched S Q =
         let C = carried (limitOf limit) (S .rings) (Q .rings) (S .listing) (Q .listing) in
         let words : length (encode (S .rings)) ≡ length (encode (Q .rings)) = encode-words (S .rings) ∙ C .words ∙ sym (encode-words (Q .rings)) in
-        S .says ∙ same-settled (S .rings) (Q .rings) (C .counts) (C .total) words n limit (f (S .rings)) (g (Q .rings)) (alike (S .rings) (Q .rings) (C .total) words) ∙ sym (Q .says)
+        S .says ∙ same-settled (S .rings) (Q .rings) (C .counts) (C .carried .total) (C .lengths) words n limit (f (S .rings)) (g (Q .rings)) (alike (S .rings) (Q .rings) (C .carried .total) words) ∙ sym (Q .says)
 
-    same-census : Outcome n t limit allowance f d d′ c → Outcome n after limit allowance g e e′ c′ → c ≡ c′
+    same-census : CensusOutcome n t limit allowance f d d′ c → CensusOutcome n after limit allowance g e e′ c′ → c ≡ c′
     same-census O P =
         elim (ℕ-discrete (beforeSearch n t limit allowance d .code) 0) [
           | yes y ↦ searched (O .searched y) (P .searched (ap (λ (x : Answer). x .code) (sym checks) ∙ y))

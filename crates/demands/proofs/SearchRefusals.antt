@@ -16,8 +16,9 @@ use Rattle.network.specs.Verdict.{accepted, refusal, check}
 use Rattle.network.specs.FirstFault.{NamesFirst, AtPlace}
 use Rattle.ring.specs.Maxima.{ringLeast, ringMost, allowanceMost}
 use Rattle.census.specs.declared.Census.{Census}
-use Rattle.census.specs.Census.{notLimit, notAllowance, beforeSearch, encode, noCensus, afterCount, afterList, settled, Outcome, CountOutcome, ListOutcome}
-use Rattle.census.proofs.Passed.{limit-given, Passed, reached-exactly}
+use Rattle.census.specs.Census.{notLimit, notAllowance, beforeSearch, encode, noCensus, afterCount, afterList, settled, CensusOutcome, CountOutcome, ListOutcome}
+use Rattle.census.specs.Prepared.{Passed}
+use Rattle.census.proofs.Passed.{limit-given, reached-exactly}
 use Rattle.census.proofs.Settled.{code, encode-words}
 use Rattle.demands.specs.Refusals.{Answers, Check, Table, OfRings, Accepted, RightLimit, RightAllowance, SearchSays, CountSays, ListSays}
 use Rattle.demands.specs.Calls.{AfterSearch}
@@ -110,7 +111,7 @@ settled-late n limit a rings c (inl e) h = let k = rw e at h in (ap (λ (x : Cen
 settled-late n limit a rings c (inr (inl e)) h = let k = rw e at h in (ap (λ (x : Census). x .answer) k ∙ sym e, inr (inl (ap code k), k ∙ ap (λ (x : Census). noCensus (x .answer)) (sym k)))
 settled-late n limit a rings c (inr (inr e)) h = let k = rw e at h in (ap (λ (x : Census). x .answer) k ∙ sym e, inr (inr (ap code k), k ∙ ap (λ (x : Census). noCensus (x .answer)) (sym k)))
 
-module _ (n : ℕ) (t : List ℕ) (limit allowance : ℕ) (d d′ : List ℕ) (c : Census) (f : List (List ℕ) → Answer) (late : (rings : List (List ℕ)) → Late (f rings)) (O : Outcome n t limit allowance f d d′ c) where
+module _ (n : ℕ) (t : List ℕ) (limit allowance : ℕ) (d d′ : List ℕ) (c : Census) (f : List (List ℕ) → Answer) (late : (rings : List (List ℕ)) → Late (f rings)) (O : CensusOutcome n t limit allowance f d d′ c) where
   first : Answer
   first = beforeSearch n t limit allowance d
 

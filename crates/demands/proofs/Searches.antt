@@ -1,10 +1,8 @@
--- What is common to counting and listing: what comes before the search of a network, and the words of a list.
-use mathlib.Core.Path.{_≡_, refl, _∙_}
-use mathlib.Core.List.{List, [], _∷_, _++_}
-use Prim.Native.Nat.{ℕ, _+_, _-_, _*_}
-use native.Mathlib.Omega.{arith}
+-- What is common to counting and listing: what comes before the search of a network, and what an accepted listing is.
+use mathlib.Core.Path.{_≡_, _∙_}
+use mathlib.Core.List.{List, _++_}
+use Prim.Native.Nat.{ℕ, _*_}
 use lib.ListN.{length, drop}
-use Rattle.graph.specs.Counts.{sumOf, wordsOf}
 use Rattle.graph.specs.Listing.{RingListing}
 use Rattle.graph.proofs.Lists.{sets-front}
 use Rattle.network.specs.declared.Answer.{Answer}
@@ -14,19 +12,11 @@ use Rattle.network.specs.Verdict.{check, notLong, accepted}
 use Rattle.network.proofs.Verdicts.{atoms, long}
 use Rattle.network.proofs.Networks.{faultless-of}
 use Rattle.census.specs.declared.Census.{Census}
-use Rattle.census.specs.Census.{limitOf, notLimit, notAllowance, beforeSearch, encode, censusOf, Outcome, ListOutcome}
+use Rattle.census.specs.Census.{limitOf, notLimit, notAllowance, beforeSearch, encode, censusOf, CensusOutcome, ListOutcome}
 use Rattle.census.proofs.Passed.{reached-exactly}
-use Rattle.census.proofs.Settled.{code, unrefused, reached, told-list, encode-words}
+use Rattle.census.proofs.Settled.{code, unrefused, reached, told-list}
 
-words-lengths : (rings : List (List ℕ)) → wordsOf rings ≡ sumOf (λ k. k) rings + length rings
-words-lengths [] = refl
-words-lengths (r ∷ rings) = omega (arith, words-lengths rings)
-
--- the words of a list, less the number of rings, are the sum of their lengths
-pub lengths-words : (rings : List (List ℕ)) → length (encode rings) - length rings ≡ sumOf (λ k. k) rings
-lengths-words rings = omega (arith, encode-words rings, words-lengths rings)
-
-pub reached-network : (n : ℕ) (t : List ℕ) (limit allowance : ℕ) (before : List ℕ) (f : List (List ℕ) → Answer) (after : List ℕ) (c : Census) → Outcome n t limit allowance f before after c → code c ≡ 0 → IsNetwork n t
+pub reached-network : (n : ℕ) (t : List ℕ) (limit allowance : ℕ) (before : List ℕ) (f : List (List ℕ) → Answer) (after : List ℕ) (c : Census) → CensusOutcome n t limit allowance f before after c → code c ≡ 0 → IsNetwork n t
 reached-network n t limit allowance before f after c O z = reached-exactly n t limit allowance before .0 (unrefused O z) .network
 
 -- of a network, only 2, 3 and 5 come before the search
@@ -44,7 +34,7 @@ pub record ListsRings (n : ℕ) (t : List ℕ) (limit : ℕ) (l l′ : List ℕ)
 pub lists-rings : (n : ℕ) (t : List ℕ) (limit allowance : ℕ) (d d′ l l′ : List ℕ) (c : Census) → ListOutcome n t limit allowance d d′ l l′ c → code c ≡ 0 → ListsRings n t limit l l′ c
 lists-rings n t limit allowance d d′ l l′ c O z =
     let S = reached (O .census) z in
-    let so = told-list n limit allowance (S .rings) c (length l) (S .says) z in
+    let so = told-list encode allowance (S .rings) (censusOf n limit (S .rings)) c (length l) (S .says) z in
     record {
       rings = S .rings;
       listing = S .listing;

@@ -14,7 +14,7 @@ use Prim.Native.Nat.{ℕ}
 use lib.ListN.{length, drop}
 use Rattle.graph.specs.Listing.{RingListing}
 use Rattle.network.specs.Network.{Bonded}
-use Rattle.renumber.specs.Carried.{CarriedTo}
+use Rattle.renumber.specs.Carried.{RingsRenumbered}
 use Rattle.census.specs.Census.{limitOf, encode}
 use Rattle.demands.specs.declared.renumbering.HereAndThere.{HereAndThere}
 use Rattle.demands.specs.Calls.{RenumberMet, CountMet, ListMet}
@@ -29,7 +29,7 @@ pub record SameRings (names : List ℕ) (limit : ℕ) (t renamed′ l l′ m m�
   pub list-here : l′ ≡ encode xs ++ drop (length (encode xs)) l
   pub list-there : m′ ≡ encode ys ++ drop (length (encode ys)) m
   -- the same set under the new names, as many of each length
-  pub carried : CarriedTo names xs ys
+  pub carried : RingsRenumbered names xs ys
 
 pub record RenumberThenList (n : ℕ) (t names renamed renamed′ : List ℕ) (limit allowance : ℕ) (d d′ l l′ e e′ m m′ : List ℕ) (r : HereAndThere) : Type 0 where
   pub renumbered : RenumberMet n t names renamed renamed′ (r .renumbering)

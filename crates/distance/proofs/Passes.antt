@@ -7,8 +7,8 @@ use native.Mathlib.Omega.{arith}
 use native.Mathlib.Decide.{ℕ-discrete, decLe}
 use lib.ListN.{length, getD, replicate, length-replicate, getD-replicate}
 use lib.Seq.{getD-set-same, getD-set-other}
-use Rattle.graph.specs.Graph.{Walk}
-use Rattle.graph.proofs.Distances.{Nearest, distance-of, walk-longer, walk-last}
+use Rattle.graph.specs.Graph.{Walk, Nearest}
+use Rattle.graph.proofs.Distances.{distance-of, walk-longer, walk-last}
 use Rattle.network.specs.Maxima.{atomsMost}
 use Rattle.network.specs.Network.{Holds, Bonded, IsNetwork}
 use Rattle.network.proofs.Bonds.{bonded-from, bonded-to}

@@ -1,11 +1,12 @@
 -- P1 to P11 hold: the checker computes the test, and the test is right.
 use mathlib.Core.Path.{subst}
 use mathlib.Core.List.{List}
-use Prim.Native.Nat.{ℕ}
+use Prim.Native.Nat.{ℕ, _<_}
 use native.Mathlib.Omega.{arith}
 use lib.Dec.{T, eqb, eqb→eq}
 use lib.ListN.{length}
 use Rattle.graph.specs.Listing.{RingListing}
+use Rattle.graph.specs.Writing.{OneWriting}
 use Rattle.graph.specs.Counts.{ofLength, wordsOf}
 use Rattle.graph.proofs.Lists.{and-T, every-of}
 use Rattle.graph.proofs.Listed.{computed}
@@ -21,7 +22,7 @@ use Rattle.examples.proofs.Tests.{same-of, pair-of}
 
 listed : (n : ℕ) (t : List ℕ) → IsNetwork n t → (limit : ℕ) → RingListing (Bonded t) limit (listOver n t limit (distancesBy limit n (neighbours t)))
 listed n t N limit =
-    same-listing (bonded-by t) (finite n t N .back) limit (listOver n t limit (distancesBy limit n (neighbours t)))
+    same-listing 0 _<_ OneWriting (bonded-by t) (finite n t N .back) limit (listOver n t limit (distancesBy limit n (neighbours t)))
     (computed n (neighbours t) (finite n t N) _ limit (omega arith) limit (omega arith))
 
 pub holds-of : (e : Example) → T (passes e) → ExampleHolds e

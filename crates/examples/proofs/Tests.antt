@@ -70,7 +70,7 @@ written-of r h k = record { smallest = small; turn = ltb→lt (getD r 1 0) (getD
 
 module _ (r s : List ℕ) where
   reads-at : (at : ℕ → ℕ) → s ≡ map (λ i. getD r (at i) 0) (count (length r) 0) → (length s ≡ length r) × ((i : ℕ) → i < length r → getD s i 0 ≡ getD r (at i) 0)
-  reads-at at e = (ap length e ∙ length-made (λ i. getD r (at i) 0) (length r), λ i l. ap (λ xs. getD xs i 0) e ∙ getD-made (λ i. getD r (at i) 0) (length r) i l)
+  reads-at at e = (ap length e ∙ length-made (λ i. getD r (at i) 0) (length r), λ i l. ap (λ xs. getD xs i 0) e ∙ getD-made (λ i. getD r (at i) 0) 0 (length r) i l)
 
   pub reading-of : s ∈ readingsOf r → Reading 0 r s
   reading-of m = go (List·Memᴰ·cases-cons (from .2))

@@ -1,6 +1,7 @@
--- A renaming carries the listing: the rings of the other network are the renamed rings, each in its one writing, and as many of each length.
-use mathlib.Core.Path.{_≡_, sym, _∙_, ap, subst}
-use mathlib.Core.Logic.{_≢_, _↔_}
+-- A renaming carries the listing, over any form of network: the rings of the other network are the renamed rings, each in its one writing, and as
+-- many of each mark that they keep.
+use mathlib.Core.Path.{_≡_, refl, sym, _∙_, ap, subst}
+use mathlib.Core.Logic.{_≢_}
 use mathlib.Core.List.{List, [], map}
 use Prim.Native.Nat.{ℕ, suc, _≤_, _<_}
 use native.Mathlib.Decide.{decLt}
@@ -10,14 +11,12 @@ use lib.ListN.{length, getD, length-map}
 use lib.Seq.{ext-getD}
 use Rattle.graph.specs.Lists.{_∈_, Ascending, keep}
 use Rattle.graph.specs.Graph.{Ring}
-use Rattle.graph.specs.Writing.{Reading, OneWriting}
-use Rattle.graph.specs.Listing.{Before, Listed, RingListing}
-use Rattle.graph.specs.Counts.{ofLength, sumOf}
+use Rattle.graph.specs.Listing.{Before, Listing, Listed}
+use Rattle.graph.specs.Standing.{OneEach}
+use Rattle.graph.specs.Counts.{having}
+use Rattle.graph.specs.Carried.{WritingOf, KeptBy, CarriedTo}
 use Rattle.graph.proofs.Lists.{keep-of, keep-has, keep-ascending, getD-map, place-of, at-place, apart-places}
-use Rattle.graph.proofs.Listings.{ring-order-strict}
 use Rattle.graph.proofs.Pigeons.{pigeons}
-use Rattle.graph.proofs.Readings.{reading-shortest, reading-back, reading-map}
-use Rattle.graph.proofs.Writings.{writing-exists, writing-unique}
 use Rattle.graph.proofs.Renamings.{Renaming, ring-there}
 use Rattle.graph.proofs.Counts.{same-sums, sum-of-ones}
 
@@ -44,90 +43,98 @@ no-more R irr d Rel xs ys up φ one = pigeons (length ys) (length xs) (λ i. pic
     far i j l k (no c) e h = c (omega arith)
     far i j l k (yes c) (no e) h = e k
 
--- one way
-module _ {Bonded Bonded′ : ℕ → ℕ → Type 0} {f g : ℕ → ℕ} (F : Renaming Bonded Bonded′ f g) (back′ : (x y : ℕ) → Bonded′ x y → Bonded′ y x) (limit : ℕ) where
-  home-again : (r : List ℕ) → Ring Bonded 0 r → map g (map f r) ≡ r
+-- one way: f renames, g names back, and what is one ring stays one under both
+module _ {A : Type 0} {o : A} {_≺_ : A → A → Type 0} (strict : (r : List A) → Before _≺_ r r → ⊥) {Same : List A → List A → Type 0} {Written : List A → Type 0}
+    {Bonded Bonded′ : A → A → Type 0} (W : OneEach Bonded o Same Written) (W′ : OneEach Bonded′ o Same Written)
+    {f g : A → A} (F : Renaming Bonded Bonded′ f g) (back′ : (x y : A) → Bonded′ x y → Bonded′ y x)
+    (named : (r s : List A) → Same r s → Same (map g r) (map g s)) (limit : ℕ) where
+  home-again : (r : List A) → Ring Bonded o r → map g (map f r) ≡ r
   home-again r R =
-      ext-getD 0 (map g (map f r)) r (length-map (map f r) g ∙ length-map r f)
+      ext-getD o (map g (map f r)) r (length-map (map f r) g ∙ length-map r f)
       (λ i l. at i (omega (arith, length-map (map f r) g, length-map r f)) (decLt (suc i) (length r)))
     where
-      same : (i : ℕ) → i < length r → Dec (suc i < length r) → g (f (getD r i 0)) ≡ getD r i 0
-      same i l (yes k) = F .undone (getD r i 0) (getD r (suc i) 0) (R .next i k)
-      same i l (no k) = F .undone (getD r i 0) (getD r 0 0) (subst (λ n. Bonded (getD r n 0) (getD r 0 0)) (omega arith) (R .closes))
+      same : (i : ℕ) → i < length r → Dec (suc i < length r) → g (f (getD r i o)) ≡ getD r i o
+      same i l (yes k) = F .undone (getD r i o) (getD r (suc i) o) (R .next i k)
+      same i l (no k) = F .undone (getD r i o) (getD r 0 o) (subst (λ n. Bonded (getD r n o) (getD r 0 o)) (omega arith) (R .closes))
 
-      at : (i : ℕ) → i < length r → Dec (suc i < length r) → getD (map g (map f r)) i 0 ≡ getD r i 0
-      at i l d = getD-map g (map f r) i 0 0 (omega (arith, length-map r f)) ∙ ap g (getD-map f r i 0 0 l) ∙ same i l d
+      at : (i : ℕ) → i < length r → Dec (suc i < length r) → getD (map g (map f r)) i o ≡ getD r i o
+      at i l d = getD-map g (map f r) i o o (omega (arith, length-map r f)) ∙ ap g (getD-map f r i o o l) ∙ same i l d
 
   -- the one writing of a listed ring, renamed, is listed
-  pub carried : (r s : List ℕ) → Listed Bonded limit r → Reading 0 (map f r) s → OneWriting s → Listed Bonded′ limit s
+  pub carried : (r s : List A) → Listed Bonded o Written limit r → Same (map f r) s → Written s → Listed Bonded′ o Written limit s
   carried r s L R w = record {
-    within = omega (arith, L .within, R .alike, length-map r f);
-    shortest = reading-shortest 0 Bonded′ back′ (map f r) s R (ring-there F back′ 0 0 r (L .shortest));
+    within = omega (arith, L .within, W′ .alike (map f r) s R, length-map r f);
+    shortest = W′ .shortest (map f r) s R (ring-there F back′ o o r (L .shortest));
     written = w;
   }
 
   -- every listed ring, renamed, has a writing
-  pub carries : (r : List ℕ) → Listed Bonded limit r → (s : List ℕ) × Reading 0 (map f r) s × OneWriting s
-  carries r L = let S = ring-there F back′ 0 0 r (L .shortest) in writing-exists (map f r) (S .ring .three) (S .ring .different)
+  pub carries : (r : List A) → Listed Bonded o Written limit r → (s : List A) × Same (map f r) s × Written s
+  carries r L = W′ .exists (map f r) (ring-there F back′ o o r (L .shortest) .ring)
 
   -- and what is read from it can be read from it again, named back
-  pub named-back : (r s : List ℕ) → Listed Bonded limit r → Reading 0 (map f r) s → Reading 0 (map g s) r
-  named-back r s L R = reading-back 0 r (map g s) (subst (λ q. Reading 0 q (map g s)) (home-again r (L .shortest .ring)) (reading-map g 0 0 (map f r) s R))
+  pub named-back : (r s : List A) → Listed Bonded o Written limit r → Same (map f r) s → Same (map g s) r
+  named-back r s L R = W .back r (map g s) (subst (λ q. Same q (map g s)) (home-again r (L .shortest .ring)) (named (map f r) s R))
 
   -- what is carried to one ring is one ring
-  pub carried-once : (r r′ s : List ℕ) → Listed Bonded limit r → Listed Bonded limit r′ → Reading 0 (map f r) s → Reading 0 (map f r′) s → r ≡ r′
+  pub carried-once : (r r′ s : List A) → Listed Bonded o Written limit r → Listed Bonded o Written limit r′ → Same (map f r) s → Same (map f r′) s → r ≡ r′
   carried-once r r′ s L L′ R R′ =
-      writing-unique (map g s) r r′ (named-back r s L R) (named-back r′ s L′ R′) (L .written) (L′ .written)
-      (omega (arith, L .shortest .ring .three, length-map s g, R .alike, length-map r f))
+      W .unique (map g s) r r′ (omega (arith, L .shortest .ring .three, length-map s g, W′ .alike (map f r) s R, length-map r f))
+      (named-back r s L R) (named-back r′ s L′ R′) (L .written) (L′ .written)
 
-  no-more-of : (xs ys : List (List ℕ)) → RingListing Bonded limit xs → RingListing Bonded′ limit ys → (k : ℕ) → ofLength k xs ≤ ofLength k ys
-  no-more-of xs ys X Y k =
-      no-more (Before _<_) ring-order-strict [] (λ r s. Reading 0 (map f r) s) (keep (λ r. eqb (length r) k) xs) (keep (λ r. eqb (length r) k) ys)
-      (keep-ascending (Before _<_) (λ r. eqb (length r) k) xs (X .ascending)) to one
+  -- a number that a ring keeps under its new name: no more rings here have it than there
+  no-more-of : (mark mark′ : List A → ℕ) (xs ys : List (List A)) → Listing (Before _≺_) (Listed Bonded o Written limit) xs → Listing (Before _≺_) (Listed Bonded′ o Written limit) ys
+      → ((r s : List A) → r ∈ xs → s ∈ ys → Same (map f r) s → mark′ s ≡ mark r) → (k : ℕ) → having mark k xs ≤ having mark′ k ys
+  no-more-of mark mark′ xs ys X Y keeps k =
+      no-more (Before _≺_) strict [] (λ r s. Same (map f r) s) (keep (λ r. eqb (mark r) k) xs) (keep (λ r. eqb (mark′ r) k) ys)
+      (keep-ascending (Before _≺_) (λ r. eqb (mark r) k) xs (X .ascending)) to one
     where
-      to : (r : List ℕ) → r ∈ keep (λ r. eqb (length r) k) xs → (s : List ℕ) × (s ∈ keep (λ r. eqb (length r) k) ys) × Reading 0 (map f r) s
+      to : (r : List A) → r ∈ keep (λ r. eqb (mark r) k) xs → (s : List A) × (s ∈ keep (λ r. eqb (mark′ r) k) ys) × Same (map f r) s
       to r m =
-          let w = keep-of (λ r. eqb (length r) k) xs m in
+          let w = keep-of (λ r. eqb (mark r) k) xs m in
           let L = X .sound r (w .0) in
           let s = carries r L in
-          let e : k ≡ length (s .0) = omega (arith, eqb→eq (length r) k (w .1), s .1 .alike, length-map r f) in
-          (s .0, keep-has (λ r. eqb (length r) k) (Y .complete (s .0) (carried r (s .0) L (s .1) (s .2))) (subst (λ n. T (eqb (length (s .0)) n)) (sym e) (eqb-refl (length (s .0)))), s .1)
+          let there = Y .complete (s .0) (carried r (s .0) L (s .1) (s .2)) in
+          let e : k ≡ mark′ (s .0) = omega (arith, eqb→eq (mark r) k (w .1), keeps r (s .0) (w .0) there (s .1)) in
+          (s .0, keep-has (λ r. eqb (mark′ r) k) there (subst (λ n. T (eqb (mark′ (s .0)) n)) (sym e) (eqb-refl (mark′ (s .0)))), s .1)
 
-      one : (r r′ s : List ℕ) → r ∈ keep (λ r. eqb (length r) k) xs → r′ ∈ keep (λ r. eqb (length r) k) xs → Reading 0 (map f r) s → Reading 0 (map f r′) s → r ≡ r′
-      one r r′ s m m′ = carried-once r r′ s (X .sound r (keep-of (λ r. eqb (length r) k) xs m .0)) (X .sound r′ (keep-of (λ r. eqb (length r) k) xs m′ .0))
+      one : (r r′ s : List A) → r ∈ keep (λ r. eqb (mark r) k) xs → r′ ∈ keep (λ r. eqb (mark r) k) xs → Same (map f r) s → Same (map f r′) s → r ≡ r′
+      one r r′ s m m′ = carried-once r r′ s (X .sound r (keep-of (λ r. eqb (mark r) k) xs m .0)) (X .sound r′ (keep-of (λ r. eqb (mark r) k) xs m′ .0))
 
 -- both ways
-module _ {Bonded Bonded′ : ℕ → ℕ → Type 0} {f g : ℕ → ℕ} (F : Renaming Bonded Bonded′ f g) (G : Renaming Bonded′ Bonded g f)
-    (back : (x y : ℕ) → Bonded x y → Bonded y x) (back′ : (x y : ℕ) → Bonded′ x y → Bonded′ y x)
-    (limit : ℕ) (xs ys : List (List ℕ)) (X : RingListing Bonded limit xs) (Y : RingListing Bonded′ limit ys) where
-  -- the rings of the other listing are the renamed rings of this one, each in its one writing
-  pub carried-exactly : (s : List ℕ) → (s ∈ ys) ↔ ((r : List ℕ) × (r ∈ xs) × (Reading 0 (map f r) s × OneWriting s))
-  carried-exactly s = (from, λ h. Y .complete s (carried F back′ limit (h .0) s (X .sound (h .0) (h .1)) (h .2 .0) (h .2 .1)))
+module _ {A : Type 0} {o : A} {_≺_ : A → A → Type 0} (strict : (r : List A) → Before _≺_ r r → ⊥) {Same : List A → List A → Type 0} {Written : List A → Type 0}
+    {Bonded Bonded′ : A → A → Type 0} (W : OneEach Bonded o Same Written) (W′ : OneEach Bonded′ o Same Written)
+    {f g : A → A} (F : Renaming Bonded Bonded′ f g) (G : Renaming Bonded′ Bonded g f)
+    (back : (x y : A) → Bonded x y → Bonded y x) (back′ : (x y : A) → Bonded′ x y → Bonded′ y x)
+    (there : (r s : List A) → Same r s → Same (map f r) (map f s)) (named : (r s : List A) → Same r s → Same (map g r) (map g s))
+    (limit : ℕ) (xs ys : List (List A)) (X : Listing (Before _≺_) (Listed Bonded o Written limit) xs) (Y : Listing (Before _≺_) (Listed Bonded′ o Written limit) ys) where
+  same-marks : (mark mark′ : List A → ℕ) → KeptBy Same Written f xs ys mark mark′ → (k : ℕ) → having mark k xs ≡ having mark′ k ys
+  same-marks mark mark′ keeps k = omega (
+    arith,
+    no-more-of strict W W′ F back′ named limit mark mark′ xs ys X Y (λ r s m n R. keeps r s m n (R, Y .sound s n .written)) k,
+    no-more-of strict W′ W G back there limit mark′ mark ys xs Y X
+        (λ s r n m R. sym (keeps r s m n (named-back strict W′ W G back there limit s r (Y .sound s n) R, Y .sound s n .written))) k,
+  )
+
+  pub carried-to : CarriedTo Same Written f xs ys
+  carried-to = record {
+    exactly = λ s. (from s, λ h. Y .complete s (carried strict W W′ F back′ named limit (h .0) s (X .sound (h .0) (h .1)) (h .2 .0) (h .2 .1)));
+    one = λ r m.
+        let L = X .sound r m in
+        let s = carries strict W W′ F back′ named limit r L in (
+          s .0,
+          Y .complete (s .0) (carried strict W W′ F back′ named limit r (s .0) L (s .1) (s .2)),
+          (s .1, s .2),
+          λ u R. W′ .unique (map f r) u (s .0) (omega (arith, L .shortest .ring .three, length-map r f)) (R .0) (s .1) (R .1) (s .2),
+        );
+    once = λ r q s m n R Q. carried-once strict W W′ F back′ named limit r q s (X .sound r m) (X .sound q n) (R .0) (Q .0);
+    total = sym (sum-of-ones xs) ∙ same-sums (λ _. 1) (λ _. 1) xs ys (same-marks (λ _. 1) (λ _. 1) (λ _ _ _ _ _. refl)) ∙ sum-of-ones ys;
+    marks = same-marks;
+    sums = λ mark mark′ keeps. same-sums mark mark′ xs ys (same-marks mark mark′ keeps);
+  }
     where
-      from : s ∈ ys → (r : List ℕ) × (r ∈ xs) × (Reading 0 (map f r) s × OneWriting s)
-      from m =
+      from : (s : List A) → s ∈ ys → (r : List A) × (r ∈ xs) × WritingOf Same Written (map f r) s
+      from s m =
           let L = Y .sound s m in
-          let r = carries G back limit s L in
-          (r .0, X .complete (r .0) (carried G back limit s (r .0) L (r .1) (r .2)), (named-back G back limit s (r .0) L (r .1), L .written))
-
-  -- each ring has one that it is carried to, and no other
-  pub carried-to-one : (r : List ℕ) → r ∈ xs → (s : List ℕ) × (s ∈ ys) × Reading 0 (map f r) s × ((t : List ℕ) → t ∈ ys → Reading 0 (map f r) t → t ≡ s)
-  carried-to-one r m =
-      let L = X .sound r m in
-      let s = carries F back′ limit r L in (
-        s .0,
-        Y .complete (s .0) (carried F back′ limit r (s .0) L (s .1) (s .2)),
-        s .1,
-        λ t n R. writing-unique (map f r) t (s .0) R (s .1) (Y .sound t n .written) (s .2) (omega (arith, L .shortest .ring .three, length-map r f)),
-      )
-
-  -- as many of each length
-  pub same-counts : (k : ℕ) → ofLength k xs ≡ ofLength k ys
-  same-counts k = omega (arith, no-more-of F back′ limit xs ys X Y k, no-more-of G back limit ys xs Y X k)
-
-  -- so every sum over the lengths is the same, and the number of rings
-  pub same-sum : (h : ℕ → ℕ) → sumOf h xs ≡ sumOf h ys
-  same-sum h = same-sums h limit xs ys (λ r m. X .sound r m .within) (λ s m. Y .sound s m .within) same-counts
-
-  pub same-total : length xs ≡ length ys
-  same-total = sym (sum-of-ones xs) ∙ same-sum (λ k. 1) ∙ sum-of-ones ys
+          let r = carries strict W′ W G back there limit s L in
+          (r .0, X .complete (r .0) (carried strict W′ W G back there limit s (r .0) L (r .1) (r .2)), (named-back strict W′ W G back there limit s (r .0) L (r .1), L .written))

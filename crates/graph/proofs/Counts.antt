@@ -1,6 +1,7 @@
--- Lists with as many rings of each length have the same sums over their lengths.
+-- Lists with as many members of each mark have the same sum of the marks.
 use mathlib.Core.Path.{_≡_, refl, sym, _∙_, ap}
-use mathlib.Core.List.{List, [], _∷_, List·Memᴰ·head, List·Memᴰ·tail}
+use mathlib.Core.List.{List, [], _∷_, List·Memᴰ·head, List·Memᴰ·tail, List·Memᴰ·not-nil, List·Memᴰ·cases-cons}
+use mathlib.Core.Logic.{_⊎_, inl, inr}
 use Prim.Native.Nat.{ℕ, zero, suc, _+_, _*_, _≤_, _<_}
 use native.Mathlib.Nat.{suc-mul, zero-mul}
 use native.Mathlib.Omega.{arith}
@@ -8,14 +9,14 @@ use native.Mathlib.Decide.{ℕ-discrete}
 use lib.ListN.{length}
 use borrow.Author.Tests.{eq-eqb, ne-eqb}
 use Rattle.graph.specs.Lists.{_∈_}
-use Rattle.graph.specs.Counts.{ofLength, sumOf}
+use Rattle.graph.specs.Counts.{having, sumOf}
 
 -- the sum of g over the numbers below m
-abbrev sumTo : (ℕ → ℕ) → ℕ → ℕ
+abbrev pub sumTo : (ℕ → ℕ) → ℕ → ℕ
 sumTo g zero = 0
 sumTo g (suc m) = sumTo g m + g m
 
-sum-same : (g h : ℕ → ℕ) (m : ℕ) → ((k : ℕ) → k < m → g k ≡ h k) → sumTo g m ≡ sumTo h m
+pub sum-same : (g h : ℕ → ℕ) (m : ℕ) → ((k : ℕ) → k < m → g k ≡ h k) → sumTo g m ≡ sumTo h m
 sum-same g h zero e = refl
 sum-same g h (suc m) e = omega (arith, sum-same g h m (λ k l. e k (omega arith)), e m (omega arith))
 
@@ -30,32 +31,44 @@ sum-more g h a v (suc m) l e f = go (ℕ-discrete m a) (sum-more g h a v m)
         omega (arith, here, sum-same g h m (λ k j. f k (omega arith)))
     go (no d) more = omega (arith, more (omega arith) e f, f m d)
 
-one-longer : (r : List ℕ) (rings : List (List ℕ)) → ofLength (length r) (r ∷ rings) ≡ suc (ofLength (length r) rings)
-one-longer r rings = rw (eq-eqb (length r) (length r) refl)
+module _ {A : Type 0} (mark : A → ℕ) where
+  one-more : (x : A) (xs : List A) → having mark (mark x) (x ∷ xs) ≡ suc (having mark (mark x) xs)
+  one-more x xs = rw (eq-eqb (mark x) (mark x) refl)
 
-as-long : (r : List ℕ) (rings : List (List ℕ)) (k : ℕ) → (k ≡ length r → ⊥) → ofLength k (r ∷ rings) ≡ ofLength k rings
-as-long r rings k h = rw (ne-eqb (length r) k (λ e. h (sym e)))
+  as-many : (x : A) (xs : List A) (k : ℕ) → (k ≡ mark x → ⊥) → having mark k (x ∷ xs) ≡ having mark k xs
+  as-many x xs k h = rw (ne-eqb (mark x) k (λ e. h (sym e)))
 
--- a sum over the rings is a sum over the lengths
-by-length : (f : ℕ → ℕ) (m : ℕ) (rings : List (List ℕ)) → ((r : List ℕ) → r ∈ rings → length r < m) → sumOf f rings ≡ sumTo (λ k. ofLength k rings * f k) m
-by-length f m [] h = none m
+  -- the sum of the marks of a list, mark by mark
+  by-mark : (m : ℕ) (xs : List A) → ((x : A) → x ∈ xs → mark x < m) → sumOf mark xs ≡ sumTo (λ k. having mark k xs * k) m
+  by-mark m [] h = none m
+    where
+      none : (m : ℕ) → 0 ≡ sumTo (λ k. 0 * k) m
+      none zero = refl
+      none (suc m) = omega (arith, none m, zero-mul m)
+  by-mark m (x ∷ xs) h =
+      ap (λ (s : ℕ). mark x + s) (by-mark m xs (λ s n. h s (List·Memᴰ·tail n)))
+      ∙ sym (sum-more (λ k. having mark k (x ∷ xs) * k) (λ k. having mark k xs * k) (mark x) (mark x) m (h x (List·Memᴰ·head refl))
+      (rw (one-more x xs) (omega (arith, suc-mul (having mark (mark x) xs) (mark x))))
+      (λ k d. ap (λ (c : ℕ). c * k) (as-many x xs k d)))
+
+  -- no mark is above the sum
+  in-sum : (xs : List A) (x : A) → x ∈ xs → mark x ≤ sumOf mark xs
+  in-sum [] x m = absurd (List·Memᴰ·not-nil m)
+  in-sum (y ∷ xs) x m = go (in-sum xs x) (List·Memᴰ·cases-cons m)
+    where
+      go : (x ∈ xs → mark x ≤ sumOf mark xs) → (x ≡ y) ⊎ (x ∈ xs) → mark x ≤ mark y + sumOf mark xs
+      go later (inl e) = omega (arith, ap mark e)
+      go later (inr n) = omega (arith, later n)
+
+pub same-sums : {A B : Type 0} (mark : A → ℕ) (mark′ : B → ℕ) (xs : List A) (ys : List B) → ((k : ℕ) → having mark k xs ≡ having mark′ k ys) → sumOf mark xs ≡ sumOf mark′ ys
+same-sums mark mark′ xs ys e = go (suc (sumOf mark xs + sumOf mark′ ys)) (omega arith) (omega arith)
   where
-    none : (m : ℕ) → 0 ≡ sumTo (λ k. 0 * f k) m
-    none zero = refl
-    none (suc m) = omega (arith, none m, zero-mul (f m))
-by-length f m (r ∷ rings) h =
-    ap (λ (s : ℕ). f (length r) + s) (by-length f m rings (λ s n. h s (List·Memᴰ·tail n)))
-    ∙ sym (sum-more (λ k. ofLength k (r ∷ rings) * f k) (λ k. ofLength k rings * f k) (length r) (f (length r)) m (h r (List·Memᴰ·head refl))
-    (rw (one-longer r rings) (omega (arith, suc-mul (ofLength (length r) rings) (f (length r)))))
-    (λ k d. ap (λ (c : ℕ). c * f k) (as-long r rings k d)))
+    go : (most : ℕ) → sumOf mark xs < most → sumOf mark′ ys < most → sumOf mark xs ≡ sumOf mark′ ys
+    go most l k =
+        by-mark mark most xs (λ x m. omega (arith, in-sum mark xs x m))
+        ∙ sum-same (λ k. having mark k xs * k) (λ k. having mark′ k ys * k) most (λ k l. ap (λ (c : ℕ). c * k) (e k))
+        ∙ sym (by-mark mark′ most ys (λ y m. omega (arith, in-sum mark′ ys y m)))
 
-pub same-sums : (f : ℕ → ℕ) (m : ℕ) (xs ys : List (List ℕ)) → ((r : List ℕ) → r ∈ xs → length r ≤ m) → ((r : List ℕ) → r ∈ ys → length r ≤ m)
-    → ((k : ℕ) → ofLength k xs ≡ ofLength k ys) → sumOf f xs ≡ sumOf f ys
-same-sums f m xs ys h k e =
-    by-length f (suc m) xs (λ r i. omega (arith, h r i))
-    ∙ sum-same (λ k. ofLength k xs * f k) (λ k. ofLength k ys * f k) (suc m) (λ k l. ap (λ (c : ℕ). c * f k) (e k))
-    ∙ sym (by-length f (suc m) ys (λ r i. omega (arith, k r i)))
-
-pub sum-of-ones : (rings : List (List ℕ)) → sumOf (λ k. 1) rings ≡ length rings
+pub sum-of-ones : {A : Type 0} (xs : List A) → sumOf (λ _. 1) xs ≡ length xs
 sum-of-ones [] = refl
-sum-of-ones (r ∷ rings) = omega (arith, sum-of-ones rings)
+sum-of-ones (x ∷ xs) = omega (arith, sum-of-ones xs)

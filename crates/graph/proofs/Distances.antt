@@ -6,7 +6,7 @@ use native.Mathlib.Nat.{zero-add, suc-add}
 use native.Mathlib.Numerals.{add-one}
 use native.Mathlib.Decide.{decLe}
 use native.Mathlib.Omega.{arith}
-use Rattle.graph.specs.Graph.{Walk, via, Path, Distance, Tells}
+use Rattle.graph.specs.Graph.{Walk, via, Path, Distance, Tells, Nearest}
 
 module _ {Vertex : Type 0} (Bonded : Vertex → Vertex → Type 0) where
   pub walk-join : (m n : ℕ) (x y z : Vertex) → Walk Bonded m x y → Walk Bonded n y z → Walk Bonded (m + n) x z
@@ -51,26 +51,21 @@ module _ {Vertex : Type 0} (Bonded : Vertex → Vertex → Type 0) where
   pub no-path-no-walk : (x y : Vertex) → ((n : ℕ) → Path Bonded n x y → ⊥) → (n : ℕ) → Walk Bonded n x y → ⊥
   no-path-no-walk x y none n = no-walk-below (suc n) x y (λ i l. none i) n (omega arith)
 
-  -- d is the least number of bonds on a walk from x to y
-  pub record Nearest (x y : Vertex) (d : ℕ) : Type 0 where
-    pub walk : Walk Bonded d x y
-    pub least : (n : ℕ) → Walk Bonded n x y → d ≤ n
-
-  pub nearest-of : (x y : Vertex) (d : ℕ) → Distance Bonded x y d → Nearest x y d
+  pub nearest-of : (x y : Vertex) (d : ℕ) → Distance Bonded x y d → Nearest Bonded x y d
   nearest-of x y d h = record { walk = h .path .walk; least = λ n w. low n w (decLe d n) }
     where
       low : (n : ℕ) → Walk Bonded n x y → Dec (d ≤ n) → d ≤ n
       low n w (yes l) = l
       low n w (no l) = absurd (no-walk-below d x y (λ i k p. omega (arith, h .least i p)) n (omega arith) w)
 
-  pub distance-of : (x y : Vertex) (d : ℕ) → Nearest x y d → Distance Bonded x y d
+  pub distance-of : (x y : Vertex) (d : ℕ) → Nearest Bonded x y d → Distance Bonded x y d
   distance-of x y d h = record {
     path = least-walk-path d x y (λ m l w. omega (arith, h .least m w)) (h .walk);
     least = λ n p. h .least n (p .walk);
   }
 
   -- walks and paths give the same distance
-  pub walks-serve : (x y : Vertex) (d : ℕ) → Distance Bonded x y d ↔ Nearest x y d
+  pub walks-serve : (x y : Vertex) (d : ℕ) → Distance Bonded x y d ↔ Nearest Bonded x y d
   walks-serve x y d = (nearest-of x y d, distance-of x y d)
 
   pub distance-unique : (x y : Vertex) (c d : ℕ) → Distance Bonded x y c → Distance Bonded x y d → c ≡ d

@@ -5,10 +5,11 @@ use mathlib.Core.Bool.{Bool, true, false, not}
 use mathlib.Core.List.{List, [], _∷_, List·Memᴰ·head, List·Memᴰ·tail, List·Memᴰ·not-nil, List·Memᴰ·cases-cons, Memᴰ·cast}
 use Prim.Native.Nat.{ℕ, zero, suc, _+_, _≤_, _<_}
 use native.Mathlib.Omega.{arith}
-use native.Mathlib.Decide.{decLe}
+use native.Mathlib.Decide.{decLe, ℕ-discrete}
 use lib.Dec.{T}
 use Rattle.graph.specs.Lists.{_∈_, gather, consIf}
 use Rattle.graph.specs.Graph.{Walk, Distance}
+use Rattle.graph.specs.Finite.{BondedBy}
 use Rattle.graph.specs.Levels.{elem, once, hit, spread, levels, after}
 use Rattle.graph.proofs.Lists.{gather-of, gather-has, or-T, T-or-l, T-or-r}
 use Rattle.graph.proofs.Distances.{nearest-of, distance-of}
@@ -63,25 +64,22 @@ module _ {A : Type 0} (eq : A → A → Bool) (eq-of : (a b : A) → T (eq a b) 
       go false h = h
 
   module _ (adj : A → List A) where
-    abbrev pub Bond : A → A → Type 0
-    Bond x y = y ∈ adj x
-
-    pub after-of : (n : ℕ) (xs : List A) (y : A) → y ∈ after eq adj n xs → (x : A) × (x ∈ xs) × Walk Bond n x y
+    pub after-of : (n : ℕ) (xs : List A) (y : A) → y ∈ after eq adj n xs → (x : A) × (x ∈ xs) × Walk (BondedBy adj) n x y
     after-of zero xs y m = (y, m, refl)
     after-of (suc n) xs y m =
         let w = after-of n (spread eq adj xs) y m in
         let g = gather-of adj xs (once-of (gather adj xs) (w .1)) in
         (g .0, g .1, (w .0, g .2, w .2))
 
-    pub after-has : (n : ℕ) (xs : List A) (x y : A) → x ∈ xs → Walk Bond n x y → y ∈ after eq adj n xs
+    pub after-has : (n : ℕ) (xs : List A) (x y : A) → x ∈ xs → Walk (BondedBy adj) n x y → y ∈ after eq adj n xs
     after-has zero xs x y m w = Memᴰ·cast (sym w) m
     after-has (suc n) xs x y m w = after-has n (spread eq adj xs) (w .0) y (once-has (gather-has adj m (w .1))) (w .2)
 
-    pub walk-from : (n : ℕ) (x y : A) → y ∈ after eq adj n (x ∷ []) → Walk Bond n x y
+    pub walk-from : (n : ℕ) (x y : A) → y ∈ after eq adj n (x ∷ []) → Walk (BondedBy adj) n x y
     walk-from n x y m = let w = after-of n (x ∷ []) y m in one (w .0) (List·Memᴰ·cases-cons (w .1)) (w .2)
       where
-        one : (z : A) → (z ≡ x) ⊎ (z ∈ []) → Walk Bond n z y → Walk Bond n x y
-        one z (inl e) v = subst (λ t. Walk Bond n t y) e v
+        one : (z : A) → (z ≡ x) ⊎ (z ∈ []) → Walk (BondedBy adj) n z y → Walk (BondedBy adj) n x y
+        one z (inl e) v = subst (λ t. Walk (BondedBy adj) n t y) e v
         one z (inr k) v = absurd (List·Memᴰ·not-nil k)
 
     -- y is first met m levels on
@@ -139,21 +137,40 @@ module _ {A : Type 0} (eq : A → A → Bool) (eq-of : (a b : A) → T (eq a b) 
         go false f e = e
 
     -- as far as `most` the first level that holds y is the distance
-    pub hit-distance : (far most : ℕ) (x y : A) (d : ℕ) → d ≤ most → most < far → (hit eq far (levels eq adj (suc most) (x ∷ [])) 0 y ≡ d) ↔ Distance Bond x y d
+    pub hit-distance : (far most : ℕ) (x y : A) (d : ℕ) → d ≤ most → most < far → (hit eq far (levels eq adj (suc most) (x ∷ [])) 0 y ≡ d) ↔ Distance (BondedBy adj) x y d
     hit-distance far most x y d h c = (to, from)
       where
-        to : hit eq far (levels eq adj (suc most) (x ∷ [])) 0 y ≡ d → Distance Bond x y d
+        to : hit eq far (levels eq adj (suc most) (x ∷ [])) 0 y ≡ d → Distance (BondedBy adj) x y d
         to e =
             let f = hit-of far (suc most) d 0 (x ∷ []) y (omega arith) (omega arith) (omega arith) in
-            distance-of Bond x y d (record { walk = walk-from d x y (f .0); least = λ n w. low n w (decLe d n) f })
+            distance-of (BondedBy adj) x y d (record { walk = walk-from d x y (f .0); least = λ n w. low n w (decLe d n) f })
           where
-            low : (n : ℕ) → Walk Bond n x y → Dec (d ≤ n) → First d (x ∷ []) y → d ≤ n
+            low : (n : ℕ) → Walk (BondedBy adj) n x y → Dec (d ≤ n) → First d (x ∷ []) y → d ≤ n
             low n w (yes l) f = l
             low n w (no l) f = absurd (f .1 n (omega arith) (after-has n (x ∷ []) x y (List·Memᴰ·head refl) w))
 
-        from : Distance Bond x y d → hit eq far (levels eq adj (suc most) (x ∷ [])) 0 y ≡ d
+        from : Distance (BondedBy adj) x y d → hit eq far (levels eq adj (suc most) (x ∷ [])) 0 y ≡ d
         from e =
-            let k = nearest-of Bond x y d e in
+            let k = nearest-of (BondedBy adj) x y d e in
             hit-has far (suc most) d 0 (x ∷ []) y (omega arith)
             (after-has d (x ∷ []) x y (List·Memᴰ·head refl) (k .walk), λ i l m. omega (arith, k .least i (walk-from i x y m)))
             ∙ omega arith
+
+    -- the least number of bonds below b
+    pub find : (x y : A) (b : ℕ) → ((d : ℕ) × (d < b) × Distance (BondedBy adj) x y d) ⊎ ((i : ℕ) → i < b → Walk (BondedBy adj) i x y → ⊥)
+    find x y zero = inr (λ i l w. omega arith)
+    find x y (suc b) = go (find x y b) (elem eq y (after eq adj b (x ∷ []))) (λ t. walk-from b x y (elem-of y (after eq adj b (x ∷ [])) t)) (λ w. elem-has y (after-has b (x ∷ []) x y (List·Memᴰ·head refl) w))
+      where
+        go : ((d : ℕ) × (d < b) × Distance (BondedBy adj) x y d) ⊎ ((i : ℕ) → i < b → Walk (BondedBy adj) i x y → ⊥) → (t : Bool) → (T t → Walk (BondedBy adj) b x y) → (Walk (BondedBy adj) b x y → T t)
+            → ((d : ℕ) × (d < suc b) × Distance (BondedBy adj) x y d) ⊎ ((i : ℕ) → i < suc b → Walk (BondedBy adj) i x y → ⊥)
+        go (inl h) t f g = inl (h .0, omega (arith, h .1), h .2)
+        go (inr h) true f g = inl (b, omega arith, distance-of (BondedBy adj) x y b (record { walk = f tt; least = λ n w. low n w (decLe b n) }))
+          where
+            low : (n : ℕ) → Walk (BondedBy adj) n x y → Dec (b ≤ n) → b ≤ n
+            low n w (yes l) = l
+            low n w (no l) = absurd (h n (omega arith) w)
+        go (inr h) false f g = inr (λ i l w. out i l w (ℕ-discrete i b))
+          where
+            out : (i : ℕ) → i < suc b → Walk (BondedBy adj) i x y → Dec (i ≡ b) → ⊥
+            out i l w (yes e) = g (subst (λ k. Walk (BondedBy adj) k x y) e w)
+            out i l w (no e) = h i (omega arith) w

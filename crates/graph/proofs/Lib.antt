@@ -13,3 +13,5 @@ pub mod Listed
 pub mod Renamings
 pub mod Counts
 pub mod Carried
+pub mod Standing
+pub mod Sums

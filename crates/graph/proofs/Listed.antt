@@ -10,15 +10,15 @@ use lib.Dec.{T, eqb, ltb, eqb→eq, eqb-refl, ltb→lt, lt→ltb, T-not, not-T}
 use lib.ListN.{length, getD, take}
 use lib.Seq.{getD-take, length-take-le}
 use Rattle.graph.specs.Lists.{count}
-use Rattle.graph.specs.Graph.{Distance, ShortestPathRing}
+use Rattle.graph.specs.Graph.{Distance}
 use Rattle.graph.specs.Writing.{OneWriting}
-use Rattle.graph.specs.Listing.{Before, Listing, RingListing}
+use Rattle.graph.specs.Finite.{BondedBy, FiniteNetwork}
+use Rattle.graph.specs.Listing.{RingListing}
 use Rattle.graph.specs.Levels.{hit, levels}
 use Rattle.graph.specs.Search.{ringsWithin, inWriting, distanceRow, distanceTable, look}
 use Rattle.graph.proofs.Lists.{count-of, count-has, count-ascending, and-T, T-and, or-T, T-or-l, T-or-r, getD-map, length-count, getD-count}
 use Rattle.graph.proofs.Levels.{hit-distance}
 use Rattle.graph.proofs.Search.{searched}
-use Rattle.graph.proofs.Finite.{BondedBy, FiniteNetwork}
 
 look-table : (far most size : ℕ) (adj : ℕ → List ℕ) (x y : ℕ) → x < size → y < size
     → look far (distanceTable far most size adj) x y ≡ hit eqb far (levels eqb adj (suc most) (x ∷ [])) 0 y
@@ -67,24 +67,18 @@ in-writing-has r h w j l =
 pub listed-by : (size : ℕ) (adj : ℕ → List ℕ) → FiniteNetwork size adj → (dist : ℕ → ℕ → ℕ) (most : ℕ)
     → ((x y d : ℕ) → x < size → y < size → d ≤ most → (dist x y ≡ d) ↔ Distance (BondedBy adj) x y d)
     → (limit : ℕ) → limit ≤ most + most + 1 → RingListing (BondedBy adj) limit (ringsWithin 0 (count size 0) adj dist inWriting limit)
-listed-by size adj N dist most right limit c = record {
-  sound = λ r m. let w = it .sound r m in record { within = w .0; shortest = w .1; written = w .2 };
-  complete = λ r h. it .complete r (h .within, h .shortest, h .written);
-  ascending = it .ascending;
-}
-  where
-    it : Listing (Before _<_) (λ r. (length r ≤ limit) × ShortestPathRing (BondedBy adj) 0 r × OneWriting r) (ringsWithin 0 (count size 0) adj dist inWriting limit)
-    it = searched 0 (count size 0) adj dist inWriting (λ x. x < size) OneWriting most
-        (record {
-          first-in = λ x m. omega (arith, count-of size 0 m .1);
-          next-in = N .inside;
-          back = N .back;
-          measured = right;
-          writes = λ r h. (in-writing-has r h, in-writing-of r h);
-          starts = λ r h w. count-has size 0 (getD r 0 0) (omega arith)
-              (omega (arith, N .inside (getD r 1 0) (getD r 0 0) (N .back (getD r 0 0) (getD r 1 0) (h .ring .next 0 (omega (arith, h .ring .three))))));
-        })
-        _<_ (count-ascending size 0) (N .ascends) limit (omega arith)
+listed-by size adj N dist most right =
+    searched 0 (count size 0) adj dist inWriting (λ x. x < size) OneWriting most
+    (record {
+      first-in = λ x m. omega (arith, count-of size 0 m .1);
+      next-in = N .inside;
+      back = N .back;
+      measured = right;
+      writes = λ r h. (in-writing-has r h, in-writing-of r h);
+      starts = λ r h w. count-has size 0 (getD r 0 0) (omega arith)
+          (omega (arith, N .inside (getD r 1 0) (getD r 0 0) (N .back (getD r 0 0) (getD r 1 0) (h .ring .next 0 (omega (arith, h .ring .three))))));
+    })
+    _<_ (count-ascending size 0) (N .ascends)
 
 -- the table that levels compute is right as far as `most`
 pub look-right : (size : ℕ) (adj : ℕ → List ℕ) (far most : ℕ) → most < far → (x y d : ℕ) → x < size → y < size → d ≤ most

@@ -6,6 +6,7 @@ use Prim.Native.Nat.{ℕ, _<_}
 use native.Mathlib.Decide.{decLt, ℕ-discrete}
 use native.Mathlib.Omega.{arith}
 use lib.ListN.{length}
+use Rattle.graph.specs.Writing.{OneWriting}
 use Rattle.graph.specs.Listing.{Lex, Before, Listing, RingListing, Listed}
 use Rattle.graph.proofs.Lists.{ascending-unique}
 
@@ -87,4 +88,4 @@ ring-order-total = before-total _<_ (λ x y. go x y (decLt x y) (ℕ-discrete x 
     go x y (no l) (no e) = inr (inr (omega arith))
 
 pub ring-listing-unique : (Bonded : ℕ → ℕ → Type 0) (limit : ℕ) (xs ys : List (List ℕ)) → RingListing Bonded limit xs → RingListing Bonded limit ys → xs ≡ ys
-ring-listing-unique Bonded limit = listing-unique _<_ less-irr less-tr (Listed Bonded limit)
+ring-listing-unique Bonded limit = listing-unique _<_ less-irr less-tr (Listed Bonded 0 OneWriting limit)

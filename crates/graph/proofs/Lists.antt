@@ -222,8 +222,8 @@ map-same [] = refl
 map-same (x ∷ xs) = ap (λ ys. x ∷ ys) (map-same xs)
 
 -- a list made from its places
-pub length-made : (f : ℕ → ℕ) (n : ℕ) → length (map f (count n 0)) ≡ n
+pub length-made : {A : Type 0} (f : ℕ → A) (n : ℕ) → length (map f (count n 0)) ≡ n
 length-made f n = length-map (count n 0) f ∙ length-count n 0
 
-pub getD-made : (f : ℕ → ℕ) (n i : ℕ) → i < n → getD (map f (count n 0)) i 0 ≡ f i
-getD-made f n i l = getD-map f (count n 0) i 0 0 (omega (arith, length-count n 0)) ∙ ap f (getD-count n 0 i 0 l ∙ omega arith)
+pub getD-made : {A : Type 0} (f : ℕ → A) (d : A) (n i : ℕ) → i < n → getD (map f (count n 0)) i d ≡ f i
+getD-made f d n i l = getD-map f (count n 0) i 0 d (omega (arith, length-count n 0)) ∙ ap f (getD-count n 0 i 0 l ∙ omega arith)

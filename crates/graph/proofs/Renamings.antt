@@ -7,7 +7,7 @@ use native.Mathlib.Omega.{arith}
 use native.Mathlib.Decide.{decLt}
 use lib.ListN.{length, getD, length-map}
 use Rattle.graph.specs.Graph.{around, Walk, Distance, ShortestPathRing}
-use Rattle.graph.specs.Listing.{RingListing, Listed}
+use Rattle.graph.specs.Listing.{Before, Listing, Listed}
 use Rattle.graph.proofs.Lists.{getD-map, map-same}
 use Rattle.graph.proofs.Distances.{nearest-of, distance-of}
 use Rattle.graph.proofs.Rings.{ring-by-distances}
@@ -62,19 +62,20 @@ module _ {A : Type 0} {Bonded Bonded′ : A → A → Type 0} (same : (x y : A) 
   pub same-ring : (back : (x y : A) → Bonded′ x y → Bonded′ y x) (o : A) (r : List A) → ShortestPathRing Bonded o r → ShortestPathRing Bonded′ o r
   same-ring back o r h = subst (λ s. ShortestPathRing Bonded′ o s) (map-same r) (ring-there renamed back o o r h)
 
-pub same-listing : {Bonded Bonded′ : ℕ → ℕ → Type 0} → ((x y : ℕ) → Bonded x y ↔ Bonded′ x y) → ((x y : ℕ) → Bonded x y → Bonded y x)
-    → (limit : ℕ) (xs : List (List ℕ)) → RingListing Bonded limit xs → RingListing Bonded′ limit xs
-same-listing {Bonded} {Bonded′} same back limit xs L = record {
+pub same-listing : {A : Type 0} {Bonded Bonded′ : A → A → Type 0} (o : A) (_≺_ : A → A → Type 0) (Written : List A → Type 0)
+    → ((x y : A) → Bonded x y ↔ Bonded′ x y) → ((x y : A) → Bonded x y → Bonded y x)
+    → (limit : ℕ) (xs : List (List A)) → Listing (Before _≺_) (Listed Bonded o Written limit) xs → Listing (Before _≺_) (Listed Bonded′ o Written limit) xs
+same-listing {A} {Bonded} {Bonded′} o _≺_ Written same back limit xs L = record {
   sound = λ r m. to r (L .sound r m);
   complete = λ r h. L .complete r (from r h);
   ascending = L .ascending;
 }
   where
-    back′ : (x y : ℕ) → Bonded′ x y → Bonded′ y x
+    back′ : (x y : A) → Bonded′ x y → Bonded′ y x
     back′ x y b = same y x .0 (back x y (same x y .1 b))
 
-    to : (r : List ℕ) → Listed Bonded limit r → Listed Bonded′ limit r
-    to r h = record { within = h .within; shortest = same-ring same back′ 0 r (h .shortest); written = h .written }
+    to : (r : List A) → Listed Bonded o Written limit r → Listed Bonded′ o Written limit r
+    to r h = record { within = h .within; shortest = same-ring same back′ o r (h .shortest); written = h .written }
 
-    from : (r : List ℕ) → Listed Bonded′ limit r → Listed Bonded limit r
-    from r h = record { within = h .within; shortest = same-ring (λ x y. (same x y .1, same x y .0)) back 0 r (h .shortest); written = h .written }
+    from : (r : List A) → Listed Bonded′ o Written limit r → Listed Bonded o Written limit r
+    from r h = record { within = h .within; shortest = same-ring (λ x y. (same x y .1, same x y .0)) back o r (h .shortest); written = h .written }

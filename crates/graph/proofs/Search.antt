@@ -10,7 +10,8 @@ use lib.ListN.{length, getD, take}
 use lib.Seq.{getD-take, length-take-le}
 use Rattle.graph.specs.Lists.{_∈_, Ascending, count}
 use Rattle.graph.specs.Graph.{Distance, around, ShortestPathRing}
-use Rattle.graph.specs.Listing.{Lex, Before, Listing}
+use Rattle.graph.specs.Finite.{BondedBy}
+use Rattle.graph.specs.Listing.{Lex, Before, Listing, Listed}
 use Rattle.graph.specs.Search.{grow, apart, following, rings, ringsWithin}
 use Rattle.graph.proofs.Lists.{gather-of, gather-has, keep-of, keep-has, map-of, map-has, count-of, count-has, count-ascending, and-T, T-and, keep-ascending, gather-ascending}
 use Rattle.graph.proofs.Rings.{ring-by-distances}
@@ -125,22 +126,19 @@ module _ {Vertex : Type 0} (o : Vertex) (vertices : List Vertex) (adj : Vertex �
       (λ i l′. ap (λ y. dist y (getD r j o)) (getD-take (suc j) (x ∷ r) i o (omega arith)) ∙ h .far i (omega arith) ∙ ap (around k) (omega arith)))
       (h .may))
 
-  abbrev pub Bond : Vertex → Vertex → Type 0
-  Bond x y = y ∈ adj x
-
   -- what the search relies on
   pub record Sound (Inside : Vertex → Type 0) (Written : List Vertex → Type 0) (most : ℕ) : Type 0 where
     pub first-in : (x : Vertex) → x ∈ vertices → Inside x
-    pub next-in : (x y : Vertex) → Bond x y → Inside y
-    pub back : (x y : Vertex) → Bond x y → Bond y x
-    pub measured : (x y : Vertex) (d : ℕ) → Inside x → Inside y → d ≤ most → (dist x y ≡ d) ↔ Distance Bond x y d
+    pub next-in : (x y : Vertex) → BondedBy adj x y → Inside y
+    pub back : (x y : Vertex) → BondedBy adj x y → BondedBy adj y x
+    pub measured : (x y : Vertex) (d : ℕ) → Inside x → Inside y → d ≤ most → (dist x y ≡ d) ↔ Distance (BondedBy adj) x y d
     pub writes : (r : List Vertex) → 3 ≤ length r
         → Written r ↔ ((j : ℕ) → suc j < length r → T (allowed (length r) (take (suc j) r) (getD r (suc j) o)))
-    pub starts : (r : List Vertex) → ShortestPathRing Bond o r → Written r → getD r 0 o ∈ vertices
+    pub starts : (r : List Vertex) → ShortestPathRing (BondedBy adj) o r → Written r → getD r 0 o ∈ vertices
 
   module _ (Inside : Vertex → Type 0) (Written : List Vertex → Type 0) (most : ℕ) (S : Sound Inside Written most) where
-    rings-of : (r : List Vertex) → 3 ≤ length r → length r ≤ most + most + 1 → r ∈ ringsOf (length r) → ShortestPathRing Bond o r × Written r
-    rings-of r h c m = (ring-by-distances Bond (S .back) o r h near, S .writes r h .1 (λ j l. at j l .may))
+    rings-of : (r : List Vertex) → 3 ≤ length r → length r ≤ most + most + 1 → r ∈ ringsOf (length r) → ShortestPathRing (BondedBy adj) o r × Written r
+    rings-of r h c m = (ring-by-distances (BondedBy adj) (S .back) o r h near, S .writes r h .1 (λ j l. at j l .may))
       where
         at : (j : ℕ) → suc j < length r → Place (length r) r j
         at j l = following-of (length r) r j l (fits-at (follow (length r)) o r [] (grow-of (follow (length r)) (length r) [] r m .1) (suc j) l)
@@ -149,11 +147,11 @@ module _ {Vertex : Type 0} (o : Vertex) (vertices : List Vertex) (adj : Vertex �
         inside zero l = S .first-in (getD r 0 o) (fits-at (follow (length r)) o r [] (grow-of (follow (length r)) (length r) [] r m .1) 0 l)
         inside (suc j) l = S .next-in (getD r j o) (getD r (suc j) o) (at j l .bond)
 
-        near : (i j : ℕ) → i < j → j < length r → Distance Bond (getD r i o) (getD r j o) (around (length r) (j - i))
+        near : (i j : ℕ) → i < j → j < length r → Distance (BondedBy adj) (getD r i o) (getD r j o) (around (length r) (j - i))
         near i zero l l′ = absurd (omega arith)
         near i (suc j) l l′ = S .measured (getD r i o) (getD r (suc j) o) (around (length r) (suc j - i)) (inside i (omega arith)) (inside (suc j) l′) (omega arith) .0 (at j l′ .far i l)
 
-    rings-has : (r : List Vertex) → length r ≤ most + most + 1 → ShortestPathRing Bond o r → Written r → r ∈ ringsOf (length r)
+    rings-has : (r : List Vertex) → length r ≤ most + most + 1 → ShortestPathRing (BondedBy adj) o r → Written r → r ∈ ringsOf (length r)
     rings-has r c h w = grow-has (follow (length r)) r [] (at-fits (follow (length r)) o r [] at)
       where
         inside : (j : ℕ) → j < length r → Inside (getD r j o)
@@ -175,21 +173,20 @@ module _ {Vertex : Type 0} (o : Vertex) (vertices : List Vertex) (adj : Vertex �
 
       -- the search makes the listing
       pub searched : (limit : ℕ) → limit ≤ most + most + 1
-          → Listing (Before R) (λ r. (length r ≤ limit) × ShortestPathRing Bond o r × Written r) (ringsWithin o vertices adj dist allowed limit)
+          → Listing (Before R) (Listed (BondedBy adj) o Written limit) (ringsWithin o vertices adj dist allowed limit)
       searched limit c = record { sound = sound; complete = complete; ascending = asc }
         where
-          sound : (r : List Vertex) → r ∈ ringsWithin o vertices adj dist allowed limit → (length r ≤ limit) × ShortestPathRing Bond o r × Written r
+          sound : (r : List Vertex) → r ∈ ringsWithin o vertices adj dist allowed limit → Listed (BondedBy adj) o Written limit r
           sound r m =
               let g = gather-of ringsOf (count (limit - 2) 3) m in
               let n = count-of (limit - 2) 3 (g .1) in
               let e = grow-of (follow (g .0)) (g .0) [] r (g .2) .0 in
-              let l : length r ≤ limit = omega arith in
               let w = rings-of r (omega arith) (omega arith) (subst (λ k. r ∈ ringsOf k) (sym e) (g .2)) in
-              (l, w .0, w .1)
+              record { within = omega arith; shortest = w .0; written = w .1 }
 
-          complete : (r : List Vertex) → (length r ≤ limit) × ShortestPathRing Bond o r × Written r → r ∈ ringsWithin o vertices adj dist allowed limit
-          complete r h = gather-has ringsOf (count-has (limit - 2) 3 (length r) (h .1 .ring .three) (omega (arith, h .0, h .1 .ring .three)))
-              (rings-has r (omega (arith, h .0)) (h .1) (h .2))
+          complete : (r : List Vertex) → Listed (BondedBy adj) o Written limit r → r ∈ ringsWithin o vertices adj dist allowed limit
+          complete r h = gather-has ringsOf (count-has (limit - 2) 3 (length r) (h .shortest .ring .three) (omega (arith, h .within, h .shortest .ring .three)))
+              (rings-has r (omega (arith, h .within)) (h .shortest) (h .written))
 
           up-lex : (ss : List (List Vertex)) (k : ℕ) → ((s : List Vertex) → s ∈ ss → length s ≡ k) → Ascending (Lex R) ss → Ascending (Before R) ss
           up-lex [] k f h = tt

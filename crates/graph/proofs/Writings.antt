@@ -10,9 +10,10 @@ use lib.ListN.{length, getD}
 use lib.Seq.{ext-getD}
 use Rattle.graph.specs.Lists.{count}
 use Rattle.graph.specs.Graph.{Ring}
+use Rattle.graph.specs.Standing.{OneEach}
 use Rattle.graph.specs.Writing.{Onwards, Backwards, Reading, OneWriting}
 use Rattle.graph.proofs.Lists.{length-made, getD-made}
-use Rattle.graph.proofs.Readings.{Wrapped, wrap, wrapped, reaches}
+use Rattle.graph.proofs.Readings.{Wrapped, wrap, wrapped, reaches, reading-shortest, reading-back}
 
 -- of the least numbers of a list, one stands at a place
 least-place : (r : List ℕ) (n : ℕ) → 0 < n → (m : ℕ) × (m < n) × ((i : ℕ) → i < n → getD r m 0 ≤ getD r i 0)
@@ -164,7 +165,7 @@ read-length r q = length-made (λ i. getD r (q i) 0) (length r)
 
 read-at : (r : List ℕ) (q : ℕ → ℕ) (i : ℕ) → i < length r → getD (read r q) i 0 ≡ getD r (q i) 0
 unfolding read
-read-at r q i l = getD-made (λ i. getD r (q i) 0) (length r) i l
+read-at r q i l = getD-made (λ i. getD r (q i) 0) 0 (length r) i l
 
 pub writing-exists : (r : List ℕ) → 3 ≤ length r → ((i j : ℕ) → i < j → j < length r → getD r i 0 ≢ getD r j 0) → (s : List ℕ) × Reading 0 r s × OneWriting s
 writing-exists r h d = go (decLt (getD r ((m + 1) % length r) 0) (getD r ((m + (length r - 1)) % length r) 0))
@@ -198,3 +199,13 @@ pub exactly-one-writing : (Bonded : ℕ → ℕ → Type 0) (r : List ℕ) → R
 exactly-one-writing Bonded r R =
     let w = writing-exists r (R .three) (R .different) in
     (w .0, w .1, w .2, λ t T v. writing-unique r t (w .0) T (w .1) v (w .2) (R .three))
+
+-- a network of atoms has one writing of each ring
+pub one-each : (Bonded : ℕ → ℕ → Type 0) → ((x y : ℕ) → Bonded x y → Bonded y x) → OneEach Bonded 0 (Reading 0) OneWriting
+one-each Bonded back = record {
+  alike = λ r s R. R .alike;
+  back = reading-back 0;
+  shortest = reading-shortest 0 Bonded back;
+  exists = λ r R. writing-exists r (R .three) (R .different);
+  unique = λ r s t h R S u v. writing-unique r s t R S u v h;
+}

@@ -4,5 +4,8 @@ pub mod Graph
 pub mod Writing
 pub mod Listing
 pub mod Counts
+pub mod Standing
+pub mod Carried
+pub mod Finite
 pub mod Levels
 pub mod Search

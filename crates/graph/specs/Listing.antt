@@ -3,8 +3,8 @@
 --   Lex _≺_ r s              the vertex at the first place where r and s differ is smaller in r
 --   Before _≺_ r s           list order: shorter rings first, equal lengths by the first vertex that differs
 --   Listing _≺_ Wanted xs    xs holds exactly the wanted, in strictly ascending order, so each of them once
---   Listed Bonded limit r    r is a shortest-path ring of at most limit atoms, in its one writing
---   RingListing Bonded limit xs    xs is the listing of those rings
+--   Listed Bonded o Written limit r    r is a shortest-path ring of at most limit vertices, in its one writing, which Written tells
+--   RingListing Bonded limit xs    xs is the listing of those rings of a network of atoms
 use mathlib.Core.Path.{_≡_}
 use mathlib.Core.Logic.{_⊎_}
 use mathlib.Core.List.{List, [], _∷_}
@@ -29,10 +29,11 @@ pub record Listing {A : Type 0} (_≺_ : A → A → Type 0) (Wanted : A → Typ
   pub complete : (a : A) → Wanted a → a ∈ xs
   pub ascending : Ascending _≺_ xs
 
-pub record Listed (Bonded : ℕ → ℕ → Type 0) (limit : ℕ) (r : List ℕ) : Type 0 where
-  pub within : length r ≤ limit
-  pub shortest : ShortestPathRing Bonded 0 r
-  pub written : OneWriting r
+module _ {Vertex : Type 0} (Bonded : Vertex → Vertex → Type 0) (o : Vertex) (Written : List Vertex → Type 0) where
+  pub record Listed (limit : ℕ) (r : List Vertex) : Type 0 where
+    pub within : length r ≤ limit
+    pub shortest : ShortestPathRing Bonded o r
+    pub written : Written r
 
 abbrev pub RingListing : (ℕ → ℕ → Type 0) → ℕ → List (List ℕ) → Type 0
-RingListing Bonded limit = Listing (Before _<_) (Listed Bonded limit)
+RingListing Bonded limit = Listing (Before _<_) (Listed Bonded 0 OneWriting limit)

@@ -11,7 +11,7 @@ use lib.ListN.{length, getD, take, drop, length-take, length-drop}
 use lib.Seq.{getD-take, getD-drop, ext-getD}
 use Rattle.graph.specs.Lists.{_∈_}
 use Rattle.graph.proofs.Lists.{keep-of, keep-has, keep-ascends, place-of, at-place}
-use Rattle.graph.proofs.Finite.{BondedBy, FiniteNetwork}
+use Rattle.graph.specs.Finite.{BondedBy, FiniteNetwork}
 use Rattle.network.specs.Maxima.{places, free}
 use Rattle.network.specs.Network.{word, Holds, Bonded, IsNetwork, neighbours}
 

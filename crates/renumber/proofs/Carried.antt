@@ -2,19 +2,22 @@
 use mathlib.Core.Path.{_≡_, sym, _∙_, ap, subst₂}
 use mathlib.Core.List.{List, map}
 use Prim.Native.Nat.{ℕ, suc}
-use native.Mathlib.Omega.{arith}
-use lib.ListN.{length-map}
+use lib.ListN.{length, length-map}
 use Rattle.graph.specs.Graph.{ShortestPathRing}
+use Rattle.graph.specs.Writing.{Reading, OneWriting}
 use Rattle.graph.specs.Listing.{RingListing}
-use Rattle.graph.proofs.Writings.{writing-unique}
+use Rattle.graph.specs.Carried.{KeptBy, CarriedTo}
+use Rattle.graph.proofs.Writings.{one-each}
 use Rattle.graph.proofs.Renamings.{Renaming, ring-there}
-use Rattle.graph.proofs.Carried.{carried-exactly, carried-to-one, carried-once, same-counts, same-sum, same-total}
+use Rattle.graph.proofs.Carried.{carried-to}
+use Rattle.graph.proofs.Listings.{ring-order-strict}
+use Rattle.graph.proofs.Readings.{reading-map}
 use Rattle.network.specs.declared.Answer.{Answer}
 use Rattle.network.specs.Network.{Bonded, IsNetwork}
 use Rattle.network.proofs.Bonds.{bonded-from, bonded-to, bonded-back}
 use Rattle.renumber.specs.Names.{name, OneToOne}
 use Rattle.renumber.specs.Outcome.{Renumbered, Outcome}
-use Rattle.renumber.specs.Carried.{CarriedTo, homeNames}
+use Rattle.renumber.specs.Carried.{RingsRenumbered, homeNames}
 use Rattle.renumber.proofs.Outcomes.{accepts}
 use Rattle.renumber.proofs.Home.{inverse-exists, home-below, home-named}
 
@@ -47,17 +50,12 @@ module _ (n : ℕ) (t names after : List ℕ) (N : IsNetwork n t) (O : OneToOne 
   rings-home = ring-there renaming-home (bonded-back n t N) 0 0
 
   module _ (limit : ℕ) (xs ys : List (List ℕ)) (X : RingListing (Bonded t) limit xs) (Y : RingListing (Bonded after) limit ys) where
-    pub carried-to : CarriedTo names xs ys
-    carried-to = record {
-      exactly = carried-exactly renaming renaming-home back back′ limit xs ys X Y;
-      one = λ r m.
-          let s = carried-to-one renaming renaming-home back back′ limit xs ys X Y r m in
-          let w = Y .sound (s .0) (s .1) .written in
-          (s .0, s .1, (s .2, w), λ u v. writing-unique (map (name names) r) u (s .0) (v .0) (s .2) (v .1) w (omega (arith, X .sound r m .shortest .ring .three, length-map r (name names))));
-      once = λ r q s m k v w. carried-once renaming back′ limit r q s (X .sound r m) (X .sound q k) (v .0) (w .0);
-      counts = same-counts renaming renaming-home back back′ limit xs ys X Y;
-      total = same-total renaming renaming-home back back′ limit xs ys X Y;
-      words = same-sum renaming renaming-home back back′ limit xs ys X Y suc;
+    pub rings-renumbered : RingsRenumbered names xs ys
+    rings-renumbered = record {
+      carried = carried;
+      counts = carried .marks length length long;
+      lengths = carried .sums length length long;
+      words = carried .sums (λ r. suc (length r)) (λ r. suc (length r)) (λ r s m n w. ap suc (long r s m n w));
     }
       where
         back : (x y : ℕ) → Bonded t x y → Bonded t y x
@@ -66,9 +64,17 @@ module _ (n : ℕ) (t names after : List ℕ) (N : IsNetwork n t) (O : OneToOne 
         back′ : (x y : ℕ) → Bonded after x y → Bonded after y x
         back′ = bonded-back n after (R .network)
 
+        carried : CarriedTo (Reading 0) OneWriting (name names) xs ys
+        carried = carried-to ring-order-strict (one-each (Bonded t) back) (one-each (Bonded after) back′) renaming renaming-home back back′
+            (reading-map (name names) 0 0) (reading-map (name (homeNames n names)) 0 0) limit xs ys X Y
+
+        -- a ring keeps its length
+        long : KeptBy (Reading 0) OneWriting (name names) xs ys length length
+        long r s m n w = w .0 .alike ∙ length-map r (name names)
+
 -- the same of a call that is accepted
 pub call-carries : (n : ℕ) (t names before after : List ℕ) (a : Answer) → Outcome n t names before after a → a .code ≡ 0
-    → (limit : ℕ) (xs ys : List (List ℕ)) → RingListing (Bonded t) limit xs → RingListing (Bonded after) limit ys → CarriedTo names xs ys
+    → (limit : ℕ) (xs ys : List (List ℕ)) → RingListing (Bonded t) limit xs → RingListing (Bonded after) limit ys → RingsRenumbered names xs ys
 call-carries n t names before after a H z =
     let given = accepts n t names before .0 (ap (λ (x : Answer). x .code) (sym (H .answer)) ∙ z) in
-    carried-to n t names after (given .0) (given .1) (H .renumbered z)
+    rings-renumbered n t names after (given .0) (given .1) (H .renumbered z)

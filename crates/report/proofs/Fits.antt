@@ -17,7 +17,7 @@ use Rattle.ring.specs.Maxima.{ringMost, allowanceMost}
 use Rattle.ring.specs.CandidateVerdict.{AtomsBelow}
 use Rattle.ring.proofs.CandidateVerdicts.{ring-atoms}
 use Rattle.census.specs.declared.Census.{Census}
-use Rattle.census.specs.Census.{limitOf, encode, countsOf, afterList, ListOutcome}
+use Rattle.census.specs.Census.{limitOf, encode, countsBy, countsOf, censusOf, afterList, ListOutcome}
 use Rattle.census.proofs.Passed.{limit-default}
 use Rattle.census.proofs.Settled.{reached, told-list, room-enough, encode-words}
 use Rattle.bnw.specs.File.{tableOf}
@@ -35,14 +35,14 @@ pub words-fit : (n : ℕ) (t : List ℕ) (limit allowance : ℕ) (d d′ l l′ 
     → ListOutcome n t limit allowance d d′ l l′ c → c .answer .code ≡ 0 → c .words ≤ length l
 words-fit n t limit allowance d d′ l l′ c O z =
     let S = reached (O .census) z in
-    let told = told-list n limit allowance (S .rings) c (length l) (S .says) z in
+    let told = told-list encode allowance (S .rings) (censusOf n limit (S .rings)) c (length l) (S .says) z in
     omega (arith, ap (λ (x : Census). x .words) (told .0), told .1)
 
 pub refusal-fits : (a : Answer) (l : List ℕ) → textBytes ≤ length l → length (refusalText a) ≤ length l
 refusal-fits a l h = omega (arith, refusal-length a)
 
 counts-length-all : (rings : List (List ℕ)) → length (countsOf rings) ≡ ringMost + 1
-unfolding countsOf
+unfolding countsBy
 counts-length-all rings = length-made (λ k. ofLength k rings) (ringMost + 1)
 
 module _ (n : ℕ) (t : List ℕ) (N : IsNetwork n t) (rings : List (List ℕ)) (listing : RingListing (Bonded t) (limitOf 0) rings) where
@@ -82,7 +82,7 @@ pub listing-text-fits : (n bonds : ℕ) (t text : List ℕ) → IsNetwork n t �
 listing-text-fits n bonds t text N L =
     let a = afterList allowanceMost listWords (L .rings) in
     elim (ℕ-discrete (a .code) 0) [
-      | yes y ↦ omega (arith, ap length (rw (eq-eqb (a .code) 0 y) at (L .says)), rings-fit n t N (L .rings) (L .listing) bonds (room-enough allowanceMost (L .rings) listWords y))
+      | yes y ↦ omega (arith, ap length (rw (eq-eqb (a .code) 0 y) at (L .says)), rings-fit n t N (L .rings) (L .listing) bonds (room-enough encode allowanceMost (L .rings) listWords y))
       | no y ↦ omega (arith, ap length (rw (ne-eqb (a .code) 0 y) at (L .says)), refusal-length a)
     ]
 

@@ -13,7 +13,7 @@ use Rattle.network.specs.Maxima.{places}
 use Rattle.network.specs.Network.{IsNetwork}
 use Rattle.ring.specs.Maxima.{allowanceMost}
 use Rattle.census.specs.declared.Census.{Census}
-use Rattle.census.specs.Census.{encode, countsOf, afterList, Searched, ListOutcome}
+use Rattle.census.specs.Census.{encodeBy, encode, countsOf, censusOf, afterList, Searched, ListOutcome}
 use Rattle.census.proofs.Passed.{limit-default, reached-exactly}
 use Rattle.census.proofs.Settled.{code, told-accepted, told-refused, room-enough}
 use Rattle.bnw.specs.declared.Reading.{Reading}
@@ -39,7 +39,7 @@ refusal-stands a before after p room h = stood (refusalText a) before after p h 
 
 -- a ring's line for each ring of the list
 encode-gathers : (rings : List (List ℕ)) → encode rings ≡ gather (λ r. length r ∷ r) rings
-unfolding encode
+unfolding encodeBy
 encode-gathers [] = refl
 encode-gathers (r ∷ rings) = ap (λ (ws : List ℕ). length r ∷ (r ++ ws)) (encode-gathers rings)
 
@@ -71,7 +71,7 @@ module _ (n bonds : ℕ) (t d d′ l l′ : List ℕ) (c : Census) (N : IsNetwor
 
   pub text-refused : (code c ≡ 0 → ⊥) → ListingText n bonds t (refusalText (c .answer))
   text-refused z =
-      let told = told-refused n 0 judged found c (searched .says) z in
+      let told = told-refused judged (censusOf n 0 found) c (searched .says) refl z in
       record {
         rings = found;
         listing = searched .listing;
@@ -81,8 +81,8 @@ module _ (n bonds : ℕ) (t d d′ l l′ : List ℕ) (c : Census) (N : IsNetwor
   pub text-listed : code c ≡ 0 → ListingText n bonds t (listingText n bonds (take (c .words) l′) (c .counts) (c .total))
   unfolding ringsText
   text-listed z =
-      let told = told-accepted n 0 judged found c (searched .says) z in
-      let room : length (encode found) ≤ length l = omega (arith, room-enough allowanceMost found listWords (told .0), words) in
+      let told = told-accepted judged (censusOf n 0 found) c (searched .says) z in
+      let room : length (encode found) ≤ length l = omega (arith, room-enough encode allowanceMost found listWords (told .0), words) in
       let words-are : take (c .words) l′ ≡ encode found =
       ap₂ take (ap (λ (x : Census). x .words) (told .1)) (O .written z found (searched .listing) ∙ sets-front l (encode found) room) ∙ take-at (encode found) (drop (length (encode found)) l) (length (encode found)) refl in
       record {

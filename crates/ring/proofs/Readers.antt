@@ -60,7 +60,7 @@ module _ (r : List ℕ) (start : ℕ) (onwards : Bool) where
   reading-long = length-made (λ i. getD r (placeAt (length r) start onwards i) 0) (length r)
 
   pub reading-at : (i : ℕ) → i < length r → getD (readFrom r start onwards) i 0 ≡ getD r (placeAt (length r) start onwards i) 0
-  reading-at i l = getD-made (λ i. getD r (placeAt (length r) start onwards i) 0) (length r) i l
+  reading-at i l = getD-made (λ i. getD r (placeAt (length r) start onwards i) 0) 0 (length r) i l
 
 pub place-onwards : (k start i m : ℕ) (b : Bool) → b ≡ true → m ≡ (start + i) % k → start < k → (m ≡ placeAt k start b i) × (m < k)
 unfolding placeAt

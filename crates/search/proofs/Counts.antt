@@ -1,8 +1,8 @@
 -- The counts: each is the number of rings of its length.
-use mathlib.Core.Path.{_≡_, refl, sym, _∙_, ap}
+use mathlib.Core.Path.{_≡_, refl, sym, _∙_, ap, ap₂}
 use mathlib.Core.List.{List, [], _∷_, _++_, List·Memᴰ·head, List·Memᴰ·tail}
-use Prim.Native.Nat.{ℕ, zero, suc, _+_, _-_, _≤_}
-use native.Mathlib.Nat.{zero-add}
+use Prim.Native.Nat.{ℕ, zero, suc, _+_, _-_, _*_, _≤_}
+use native.Mathlib.Nat.{zero-add, mul-zero, mul-suc}
 use native.Mathlib.Omega.{arith}
 use native.Mathlib.Decide.{ℕ-discrete}
 use lib.ListN.{length, getD, set, replicate, length-set, length-map}
@@ -11,9 +11,9 @@ use borrow.Author.Tests.{eq-eqb, ne-eqb}
 use Rattle.graph.specs.Lists.{_∈_, count}
 use Rattle.graph.proofs.Lists.{getD-map, length-count, getD-count}
 use Rattle.ring.specs.Maxima.{ringLeast, ringMost}
-use Rattle.graph.specs.Counts.{ofLength}
-use Rattle.census.specs.Census.{countsOf}
-use Rattle.search.specs.Search.{gatherBelow, ringsOf, ringsUpTo, countsUpTo}
+use Rattle.graph.specs.Counts.{ofLength, lengthsOf}
+use Rattle.census.specs.Census.{countsBy, countsOf}
+use Rattle.search.specs.Search.{gatherBelow, ringsOf, ringsUpTo, countsUpTo, lengthsUpTo}
 use Rattle.search.specs.Turn.{mayFollow}
 use Rattle.search.proofs.Below.{gather-elim}
 use Rattle.search.proofs.Members.{listed-only}
@@ -41,19 +41,27 @@ module _ (k : ℕ) where
   of-all [] h = refl
   of-all (r ∷ xs) h = of-here r xs (h r (List·Memᴰ·head refl)) ∙ ap suc (of-all xs (λ s m. h s (List·Memᴰ·tail m)))
 
+lengths-append : (xs ys : List (List ℕ)) → lengthsOf (xs ++ ys) ≡ lengthsOf xs + lengthsOf ys
+lengths-append [] ys = sym (zero-add _)
+lengths-append (r ∷ xs) ys = omega (arith, lengths-append xs ys)
+
+all-alike : (k : ℕ) (xs : List (List ℕ)) → ((r : List ℕ) → r ∈ xs → length r ≡ k) → lengthsOf xs ≡ k * length xs
+all-alike k [] h = sym (mul-zero k)
+all-alike k (r ∷ xs) h = omega (arith, h r (List·Memᴰ·head refl), all-alike k xs (λ s m. h s (List·Memᴰ·tail m)), mul-suc k (length xs))
+
 counts-long : (xs : List (List ℕ)) → length (countsOf xs) ≡ ringMost + 1
-unfolding countsOf
+unfolding countsBy
 counts-long xs = length-map (count (ringMost + 1) 0) (λ k. ofLength k xs) ∙ length-count (ringMost + 1) 0
 
 -- the count at place k is the number of rings of k atoms
 pub count-at : (xs : List (List ℕ)) (k : ℕ) → k ≤ ringMost → getD (countsOf xs) k 0 ≡ ofLength k xs
-unfolding countsOf
+unfolding countsBy
 count-at xs k l =
     getD-map (λ k. ofLength k xs) (count (ringMost + 1) 0) k 0 0 (omega (arith, length-count (ringMost + 1) 0))
     ∙ ap (λ m. ofLength m xs) (getD-count (ringMost + 1) 0 k 0 (omega arith) ∙ omega arith)
 
 counts-none : replicate (ringMost + 1) 0 ≡ countsOf []
-unfolding countsOf
+unfolding countsBy
 counts-none = refl
 
 -- one length more: none before has it, and all that are added have
@@ -84,3 +92,11 @@ module _ (n : ℕ) (t dist : List ℕ) where
       (counts-more (m + ringLeast) (ringsUpTo mayFollow n t dist m) (ringsOf mayFollow n t dist (m + ringLeast)) (omega arith)
       (λ r i e. let g = gather-elim _ m i in omega (arith, g .1, sized (g .0) r (g .2)))
       (sized m))
+
+  -- and so is the sum of their lengths
+  pub lengths-all : (m : ℕ) → lengthsUpTo mayFollow n t dist m ≡ lengthsOf (ringsUpTo mayFollow n t dist m)
+  unfolding lengthsUpTo ringsUpTo gatherBelow
+  lengths-all zero = refl
+  lengths-all (suc m) =
+      ap₂ _+_ (lengths-all m) (sym (all-alike (m + ringLeast) (ringsOf mayFollow n t dist (m + ringLeast)) (sized m)))
+      ∙ sym (lengths-append (ringsUpTo mayFollow n t dist m) (ringsOf mayFollow n t dist (m + ringLeast)))

@@ -8,6 +8,7 @@ use native.Mathlib.Omega.{arith}
 use lib.ListN.{length, getD}
 use Rattle.graph.specs.Lists.{_∈_}
 use Rattle.graph.specs.Graph.{Distance, around}
+use Rattle.graph.specs.Writing.{OneWriting}
 use Rattle.graph.specs.Listing.{Listed, RingListing}
 use Rattle.graph.proofs.Rings.{ring-by-distances}
 use Rattle.graph.proofs.Distances.{distance-unique}
@@ -38,7 +39,7 @@ right-as-far most n t d small D x y e lx ly le = (
 
 module _ (n : ℕ) (t dist : List ℕ) (N : IsNetwork n t) (right : RightAsFar (ringMost / 2) n t dist) (limit : ℕ) (most : limit ≤ ringMost) where
   -- a ring as the table and the buffer show it is a shortest-path ring in its one writing
-  listed-of : (k : ℕ) (r : List ℕ) → ringLeast ≤ k → k ≤ limit → Shortest n t dist k r → Listed (Bonded t) limit r
+  listed-of : (k : ℕ) (r : List ℕ) → ringLeast ≤ k → k ≤ limit → Shortest n t dist k r → Listed (Bonded t) 0 OneWriting limit r
   listed-of k r least within h = record {
     within = omega (arith, h .size);
     shortest = ring-by-distances (Bonded t) (bonded-back n t N) 0 r (omega (arith, h .size)) near;
@@ -51,7 +52,7 @@ module _ (n : ℕ) (t dist : List ℕ) (N : IsNetwork n t) (right : RightAsFar (
           (rw (h .size) (h .pairs i j l (omega (arith, h .size))))
 
   -- and such a ring shows in the table and the buffer
-  shows : (r : List ℕ) → Listed (Bonded t) limit r → Shortest n t dist (length r) r
+  shows : (r : List ℕ) → Listed (Bonded t) 0 OneWriting limit r → Shortest n t dist (length r) r
   shows r h = record {
     size = refl;
     chain = record {
@@ -74,12 +75,12 @@ module _ (n : ℕ) (t dist : List ℕ) (N : IsNetwork n t) (right : RightAsFar (
       many : ℕ
       many = limit + 1 - ringLeast
 
-      sound : (r : List ℕ) → r ∈ ringsUpTo mayFollow n t dist many → Listed (Bonded t) limit r
+      sound : (r : List ℕ) → r ∈ ringsUpTo mayFollow n t dist many → Listed (Bonded t) 0 OneWriting limit r
       sound r m =
           let g = gather-elim _ many m in
           listed-of (g .0 + ringLeast) r (omega arith) (omega (arith, g .1)) (listed-only n t dist (g .0 + ringLeast) mayFollow r (omega arith) (g .2))
 
-      complete : (r : List ℕ) → Listed (Bonded t) limit r → r ∈ ringsUpTo mayFollow n t dist many
+      complete : (r : List ℕ) → Listed (Bonded t) 0 OneWriting limit r → r ∈ ringsUpTo mayFollow n t dist many
       complete r h =
           let three = h .shortest .ring .three in
           let e : length r - ringLeast + ringLeast ≡ length r = omega arith in

@@ -1,13 +1,14 @@
 -- The outcome of counting and of listing at each way through them.
 use mathlib.Core.Path.{_≡_, refl, sym, _∙_, ap, subst}
 use mathlib.Core.Bool.{Bool, true, false}
-use mathlib.Core.List.{List, [], _∷_}
-use Prim.Native.Nat.{ℕ, _+_, _-_, _/_, _≤_, _<_}
+use mathlib.Core.List.{List}
+use Prim.Native.Nat.{ℕ, _+_, _-_, _*_, _/_, _≤_, _<_}
 use native.Mathlib.Omega.{arith}
-use lib.ListN.{length, length-append}
+use lib.ListN.{length}
 use lib.Seq.{sets}
 use lib.Dec.{ltb}
 use borrow.Author.Tests.{lt-ltb, le-ltb}
+use Rattle.graph.specs.Counts.{lengthsOf}
 use Rattle.graph.specs.Listing.{RingListing}
 use Rattle.graph.proofs.Listings.{ring-listing-unique}
 use Rattle.network.specs.declared.Answer.{Answer}
@@ -16,28 +17,22 @@ use Rattle.network.specs.Verdict.{check, refusal, accepted}
 use Rattle.ring.specs.Maxima.{ringLeast, ringMost, allowanceMost}
 use Rattle.census.specs.declared.Census.{Census}
 use Rattle.search.specs.declared.grow.Tally.{Tally}
-use Rattle.census.specs.Census.{encode, limitOf, beforeSearch, afterCount, afterList, countsOf, censusWith, censusOf, noCensus, settled, Searched, Outcome, CountOutcome, ListOutcome}
-use Rattle.census.specs.Prepared.{Prepared}
+use Rattle.census.specs.Census.{plain, encode, limitOf, beforeSearch, afterCount, afterList, countsOf, censusWith, censusOf, noCensus, settled, Searched, CensusOutcome, CountOutcome, ListOutcome}
+use Rattle.census.specs.Prepared.{Prepared, Passed}
 use Rattle.search.specs.Search.{ringsUpTo}
 use Rattle.search.specs.Turn.{mayFollow}
-use Rattle.search.specs.State.{Fits, Net, Tallied}
-use Rattle.census.proofs.Passed.{Passed, reached-exactly}
+use Rattle.search.specs.State.{Net, Tallied}
+use Rattle.census.proofs.Passed.{reached-exactly}
 use Rattle.search.proofs.Listed.{right-as-far, the-listing}
-use Rattle.search.proofs.Counts.{counts-all}
+use Rattle.search.proofs.Counts.{counts-all, lengths-all}
 use Rattle.search.proofs.Noted.{too-many, not-many, total, needed, holds}
 use Rattle.census.proofs.Settled.{code, unrefused, reached, told-count}
 
 abbrev number : Answer → ℕ
 number a = a .code
 
--- a word at least for each ring
-encode-long : (xs : List (List ℕ)) → length xs ≤ length (encode xs)
-unfolding encode
-encode-long [] = omega arith
-encode-long (r ∷ xs) = omega (arith, encode-long xs, length-append r (encode xs))
-
-same-census : (n u v : ℕ) (c e : List ℕ) (a b w x : ℕ) → u ≡ v → c ≡ e → a ≡ b → w ≡ x → censusWith n u c a w ≡ censusWith n v e b x
-same-census n u v c e a b w x p q r s = rw (p, q, r, s)
+same-census : (n u v : ℕ) (c e : List ℕ) (a b l m w x : ℕ) → u ≡ v → c ≡ e → a ≡ b → l ≡ m → w ≡ x → censusWith n u c a l w ≡ censusWith n v e b m x
+same-census n u v c e a b l m w x p q r o s = rw (p, q, r, o, s)
 
 -- the census as the answer settles it
 module _ (n limit allowance : ℕ) (rings : List (List ℕ)) (c : Census) where
@@ -64,7 +59,7 @@ module _ (n limit allowance : ℕ) (rings : List (List ℕ)) (c : Census) where
 
 module _ (n : ℕ) (t : List ℕ) (limit allowance : ℕ) (d d′ : List ℕ) (p : Answer) (P : Prepared n t limit allowance d d′ p) where
   -- refused before the search
-  pub out-refused : (after-search : List (List ℕ) → Answer) (c : Census) → (p .code ≡ 0 → ⊥) → c ≡ noCensus p → Outcome n t limit allowance after-search d d′ c
+  pub out-refused : (after-search : List (List ℕ) → Answer) (c : Census) → (p .code ≡ 0 → ⊥) → c ≡ noCensus p → CensusOutcome n t limit allowance after-search d d′ c
   out-refused after-search c z e = record {
     refused = λ _. (e ∙ ap noCensus (P .answer), P .refused z);
     searched = λ y. absurd (z (ap number (P .answer) ∙ y));
@@ -86,7 +81,7 @@ module _ (n : ℕ) (t : List ℕ) (limit allowance : ℕ) (d d′ : List ℕ) (p
       lists = subst (λ m. RingListing (Bonded t) m rings) u
           (the-listing n t d′ (passed .network) (right-as-far (ringMost / 2) n t d′ (omega arith) (P .filled z)) used (net .most) (net .least))
 
-      out-searched : (after-search : List (List ℕ) → Answer) (c : Census) → c ≡ settled n limit (after-search rings) rings → Outcome n t limit allowance after-search d d′ c
+      out-searched : (after-search : List (List ℕ) → Answer) (c : Census) → c ≡ settled n limit (after-search rings) rings → CensusOutcome n t limit allowance after-search d d′ c
       out-searched after-search c e = record {
         refused = λ y. absurd (y (ap number (sym (P .answer)) ∙ z));
         searched = λ _. record { filled = P .filled z; rings = rings; listing = lists; says = e };
@@ -95,32 +90,36 @@ module _ (n : ℕ) (t : List ℕ) (limit allowance : ℕ) (d d′ : List ℕ) (p
       module _ (s s′ : List ℕ) (y : Tally) (T : Tallied n t d′ (used + 1 - ringLeast) allowance s y s′) where
         many : y .found .over ≡ true → allowance < length rings
         unfolding rings
-        many o = too-many allowance rings s (y .found) s′ (T .result) o
+        many o = too-many length plain allowance rings s (y .found) s′ (T .result) o
 
         module _ (o : y .found .over ≡ false) where
           few : length rings ≤ allowance
           unfolding rings
-          few = not-many allowance rings s (y .found) s′ (T .result) o
+          few = not-many length plain allowance rings s (y .found) s′ (T .result) o
 
           all : y .found .rings ≡ length rings
           unfolding rings
-          all = total allowance rings s (y .found) s′ (T .result) o
+          all = total length plain allowance rings s (y .found) s′ (T .result) o
 
           words : y .found .at ≡ length (encode rings)
           unfolding rings
-          words = needed allowance rings s (y .found) s′ (T .result) o
+          words = needed length plain allowance rings s (y .found) s′ (T .result) o
 
           counts : y .counts ≡ countsOf rings
           unfolding rings
           counts = T .each o ∙ counts-all n t d′ (used + 1 - ringLeast) (omega (arith, net .most))
 
-          pub sums : Fits (y .found) × ((y .found .rings ≤ y .found .at) × (y .found .rings ≤ allowanceMost))
-          sums = (T .words, (omega (arith, all, words, encode-long rings), omega (arith, all, few, passed .bounded)))
+          lengths : y .lengths ≡ lengthsOf rings
+          unfolding rings
+          lengths = T .sum o ∙ lengths-all n t d′ (used + 1 - ringLeast)
 
-          told : (c : Census) → c ≡ censusWith n used (y .counts) (y .found .rings) (y .found .at) → c ≡ censusOf n limit rings
-          told c e = e ∙ same-census n used (limitOf limit) (y .counts) (countsOf rings) (y .found .rings) (length rings) (y .found .at) (length (encode rings)) u counts all words
+          pub small : y .lengths ≤ ringMost * allowanceMost
+          small = omega (arith, T .bounded, all, few, passed .bounded)
 
-          pub count-0 : (c : Census) → c ≡ censusWith n used (y .counts) (y .found .rings) (y .found .at) → CountOutcome n t limit allowance d d′ c
+          told : (c : Census) → c ≡ censusWith n used (y .counts) (y .found .rings) (y .lengths) (y .found .at) → c ≡ censusOf n limit rings
+          told c e = e ∙ same-census n used (limitOf limit) (y .counts) (countsOf rings) (y .found .rings) (length rings) (y .lengths) (lengthsOf rings) (y .found .at) (length (encode rings)) u counts all lengths words
+
+          pub count-0 : (c : Census) → c ≡ censusWith n used (y .counts) (y .found .rings) (y .lengths) (y .found .at) → CountOutcome n t limit allowance d d′ c
           count-0 c e = out-searched (afterCount allowance) c (settled-count n limit allowance rings c few (told c e))
 
         pub count-12 : (a : Answer) (c : Census) → y .found .over ≡ true → a ≡ refusal 12 → c ≡ noCensus a → CountOutcome n t limit allowance d d′ c
@@ -131,7 +130,7 @@ module _ (n : ℕ) (t : List ℕ) (limit allowance : ℕ) (d d′ : List ℕ) (p
       unfolding rings
       rewritten l l′ y T xs h few room =
           let same : rings ≡ xs = ring-listing-unique (Bonded t) (limitOf limit) rings xs lists h in
-          holds allowance rings l (y .found) l′ (T .result) (subst (λ (x : List (List ℕ)). length x ≤ allowance) (sym same) few) (subst (λ (x : List (List ℕ)). length (encode x) ≤ length l) (sym same) room) .1
+          holds length plain allowance rings l (y .found) l′ (T .result) (subst (λ (x : List (List ℕ)). length x ≤ allowance) (sym same) few) (subst (λ (x : List (List ℕ)). length (encode x) ≤ length l) (sym same) room) .1
           ∙ ap (λ (x : List (List ℕ)). sets l 0 (encode x)) same
 
 -- listing, after counting
@@ -152,7 +151,7 @@ module _ (n : ℕ) (t : List ℕ) (limit allowance : ℕ) (d d′ : List ℕ) (c
     counted = reached C z
 
     its : (c ≡ censusOf n limit (counted .rings)) × (length (counted .rings) ≤ allowance)
-    its = told-count n limit allowance (counted .rings) c (counted .says) z
+    its = told-count encode allowance (counted .rings) (censusOf n limit (counted .rings)) c (counted .says) z
 
     prepared : Prepared n t limit allowance d d′ (beforeSearch n t limit allowance d)
     prepared = record { answer = refl; refused = λ y. absurd (y (unrefused C z)); filled = λ _. counted .filled }
@@ -166,7 +165,7 @@ module _ (n : ℕ) (t : List ℕ) (limit allowance : ℕ) (d d′ : List ℕ) (c
     pub again-small : allowance ≤ allowanceMost
     again-small = passed n t limit allowance d d′ (beforeSearch n t limit allowance d) prepared (unrefused C z) .bounded
 
-    out-listed : (l : List ℕ) (e : Census) → e ≡ settled n limit (afterList allowance (length l) (counted .rings)) (counted .rings) → Outcome n t limit allowance (afterList allowance (length l)) d d′ e
+    out-listed : (l : List ℕ) (e : Census) → e ≡ settled n limit (afterList allowance (length l) (counted .rings)) (counted .rings) → CensusOutcome n t limit allowance (afterList allowance (length l)) d d′ e
     out-listed l e h = record {
       refused = λ y. absurd (y (unrefused C z));
       searched = λ _. record { filled = counted .filled; rings = counted .rings; listing = counted .listing; says = h };

@@ -14,6 +14,7 @@ use Rattle.network.specs.Network.{word, IsNetwork}
 use Rattle.network.specs.Maxima.{places, free}
 use Rattle.search.specs.Search.{Test, gatherBelow, placeOf, goesOn, follows, ended, extend, branch}
 use Rattle.search.specs.Shortest.{Ends}
+use Rattle.census.specs.Census.{plain}
 use Rattle.search.specs.State.{PathIn, State, noteAll}
 use Rattle.search.proofs.Below.{gather-rest}
 use Rattle.search.proofs.Paths.{path-long}
@@ -51,13 +52,13 @@ row-ends may n table dist k left path i w packed last lt e le =
     free j ge l =
         ⊎-elim (λ q. subst (λ (x : ℕ). n ≤ placeOf table path x) q (rw (← e) le)) (λ l′. packed _ i j last l′ l (rw (← e) le)) (eq-or-lt-of-le ge)
 
-module _ (may : Test) (n : ℕ) (table dist : List ℕ) (k left : ℕ) (path : List ℕ) (a i : ℕ) (s₀ s : State) (inv : s ≡ noteAll a (gatherBelow i (branch may n table dist k left path)) s₀) where
-  pub turn-no : goesOn may n table path i ≡ false → s ≡ noteAll a (gatherBelow (i + 1) (branch may n table dist k left path)) s₀
+module _ (may : Test) (n : ℕ) (table dist : List ℕ) (k left : ℕ) (path : List ℕ) (a i : ℕ) (s₀ s : State) (inv : s ≡ noteAll length plain a (gatherBelow i (branch may n table dist k left path)) s₀) where
+  pub turn-no : goesOn may n table path i ≡ false → s ≡ noteAll length plain a (gatherBelow (i + 1) (branch may n table dist k left path)) s₀
   unfolding gatherBelow branch noteAll
   turn-no h = rw (add-one, all-append, ← inv, h)
 
-  pub turn-yes : (s′ : State) (p : List ℕ) (r : ℕ) → goesOn may n table path i ≡ true → r ≡ placeOf table path i → p ≡ path ++ (r ∷ []) → s′ ≡ noteAll a (extend may n table dist k left p) s
-      → s′ ≡ noteAll a (gatherBelow (i + 1) (branch may n table dist k left path)) s₀
+  pub turn-yes : (s′ : State) (p : List ℕ) (r : ℕ) → goesOn may n table path i ≡ true → r ≡ placeOf table path i → p ≡ path ++ (r ∷ []) → s′ ≡ noteAll length plain a (extend may n table dist k left p) s
+      → s′ ≡ noteAll length plain a (gatherBelow (i + 1) (branch may n table dist k left path)) s₀
   unfolding gatherBelow branch
   turn-yes s′ p r h e q g = rw (add-one, all-append, ← inv, h, ← e, ← q) g
 
@@ -66,7 +67,7 @@ unfolding extend branch
 extend-some may n table dist k zero path h = absurd (h refl)
 extend-some may n table dist k (suc left) path h = rw sub-one
 
-pub whole-result : (may : Test) (n : ℕ) (table dist : List ℕ) (k left : ℕ) (w : List ℕ) (a : ℕ) (s s′ : State) → left ≡ 0 → s′ ≡ noteAll a (ended n dist k (take k w)) s → s′ ≡ noteAll a (extend may n table dist k left (take (k - left) w)) s
+pub whole-result : (may : Test) (n : ℕ) (table dist : List ℕ) (k left : ℕ) (w : List ℕ) (a : ℕ) (s s′ : State) → left ≡ 0 → s′ ≡ noteAll length plain a (ended n dist k (take k w)) s → s′ ≡ noteAll length plain a (extend may n table dist k left (take (k - left) w)) s
 unfolding extend
 whole-result may n table dist k left w a s s′ e h = rw (e, sub-zero k) h
 
@@ -75,6 +76,6 @@ pub in-row : (table w : List ℕ) (n len i last a r : ℕ) → PathIn n w len �
 in-row table w n len i last a r p el ea er = er ∙ ea ∙ place-at table (take len w) i len last (path-long p) el
 
 pub row-done : (may : Test) (n : ℕ) (table dist : List ℕ) (k left : ℕ) (w : List ℕ) (len i last r a : ℕ) (s₀ s : State) → Ends n table → PathIn n w len → last ≡ getD (take len w) (len - 1) 0 → last < n → i < places → r ≡ placeOf table (take len w) i → n ≤ r → (left ≡ 0 → ⊥)
-    → s ≡ noteAll a (gatherBelow i (branch may n table dist k (left - 1) (take len w))) s₀ → s ≡ noteAll a (extend may n table dist k left (take len w)) s₀
+    → s ≡ noteAll length plain a (gatherBelow i (branch may n table dist k (left - 1) (take len w))) s₀ → s ≡ noteAll length plain a (extend may n table dist k left (take len w)) s₀
 row-done may n table dist k left w len i last r a s₀ s packed p el lt li e le nz h =
     rw (← extend-some may n table dist k left (take len w) nz, ← row-ends may n table dist k (left - 1) (take len w) i r packed (rw (path-long p, ← el) lt) li e le) h

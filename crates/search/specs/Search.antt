@@ -18,7 +18,8 @@
 --   ringsOf .. k            every ring of k atoms
 --   ringsUpTo .. m          every ring of the m least lengths, shorter ones first
 --   countsUpTo .. m         how many there are of each length: a count for each length from 0 on, of which those of the m least are filled in
-use Prim.Native.Nat.{ℕ, zero, suc, _+_, _-_}
+--   lengthsUpTo .. m        their lengths, added up: each of the m least lengths as often as there are rings of it
+use Prim.Native.Nat.{ℕ, zero, suc, _+_, _-_, _*_}
 use mathlib.Core.Bool.{Bool, true, _&&_, cond}
 use mathlib.Core.List.{List, [], _∷_, _++_}
 use lib.ListN.{length, getD, set, replicate}
@@ -87,3 +88,7 @@ ringsUpTo may n table dist m = gatherBelow m (λ j. ringsOf may n table dist (j 
 unfoldable pub countsUpTo : Tests → ℕ → List ℕ → List ℕ → ℕ → List ℕ
 countsUpTo may n table dist zero = replicate (ringMost + 1) 0
 countsUpTo may n table dist (suc j) = set (countsUpTo may n table dist j) (j + ringLeast) (length (ringsOf may n table dist (j + ringLeast)))
+
+unfoldable pub lengthsUpTo : Tests → ℕ → List ℕ → List ℕ → ℕ → ℕ
+lengthsUpTo may n table dist zero = 0
+lengthsUpTo may n table dist (suc j) = lengthsUpTo may n table dist j + (j + ringLeast) * length (ringsOf may n table dist (j + ringLeast))

@@ -1,10 +1,11 @@
--- What the search has found so far: the count, and the list that it writes.
+-- What the search has found so far: the count, and the list that it writes. A ring is of any form: its length is its `size`, `told` gives the
+-- words of its vertices; a ring of atoms is told by their numbers.
 --
 --   State                what the search has found, and the words of the list
 --   state found words    the state with these
---   wrote ring s         a ring is counted, with the words that it takes, and written where it fits
---   note a ring s        a ring is noted, unless the allowance a is used up
---   noteAll a rings s    one after another
+--   wrote size told ring s    a ring is counted, with the words that it takes, and written where it fits
+--   note size told a ring s   a ring is noted, unless the allowance a is used up
+--   noteAll size told a rings s    one after another
 --   none                 nothing found yet
 --   Fits f               the words taken are at most a longest ring's for each ring
 --   PathIn n words len   of the words of a path the first `len` are atoms below n
@@ -13,7 +14,8 @@
 --   Grows .. left        a path that lacks `left` atoms of a ring of k
 --   Notes a xs ..        what a step of the search does that notes the rings xs
 --   Grew a xs ..         and of the words that hold the path the first `len` are as they were
---   Tallied ..           what the whole search does: every ring of the m least lengths is noted, and, where there are no more than the allowance, the counts are right
+--   Tallied ..           what the whole search does: every ring of the m least lengths is noted, and, where there are no more than the allowance, the counts are right,
+--                        and so is the sum of the lengths
 use mathlib.Core.Path.{_≡_}
 use Prim.Native.Nat.{ℕ, _+_, _-_, _*_, _<_, _≤_}
 use mathlib.Core.Bool.{true, false, cond}
@@ -21,9 +23,10 @@ use mathlib.Core.List.{List, [], _∷_}
 use lib.ListN.{length, getD, take}
 use lib.Seq.{sets}
 use lib.Dec.{ltb}
+use Rattle.census.specs.Census.{plain}
 use Rattle.network.specs.Network.{IsNetwork}
 use Rattle.ring.specs.Maxima.{ringLeast, ringMost}
-use Rattle.search.specs.Search.{ringsUpTo, countsUpTo}
+use Rattle.search.specs.Search.{ringsUpTo, countsUpTo, lengthsUpTo}
 use Rattle.search.specs.Turn.{mayFollow}
 use Rattle.search.specs.declared.note.Found.{Found}
 use Rattle.search.specs.declared.grow.Tally.{Tally}
@@ -35,21 +38,22 @@ pub record State : Type 0 where
 abbrev pub state : Found → List ℕ → State
 state f l = record { found = f; words = l }
 
-unfoldable pub wrote : List ℕ → State → State
-wrote ring s =
-    state (record { rings = s .found .rings + 1; at = s .found .at + (length ring + 1); over = false })
-    (cond (ltb (s .found .at + length ring) (length (s .words))) (sets (s .words) (s .found .at) (length ring ∷ ring)) (s .words))
+module _ {Ring : Type 0} (size : Ring → ℕ) (told : Ring → List ℕ) where
+  unfoldable pub wrote : Ring → State → State
+  wrote ring s =
+      state (record { rings = s .found .rings + 1; at = s .found .at + (length (told ring) + 1); over = false })
+      (cond (ltb (s .found .at + length (told ring)) (length (s .words))) (sets (s .words) (s .found .at) (size ring ∷ told ring)) (s .words))
 
-unfoldable pub note : ℕ → List ℕ → State → State
-note allowance ring s =
-    cond (s .found .over) s
-    (cond (ltb (s .found .rings) allowance)
-    (wrote ring s)
-    (state (record { rings = s .found .rings; at = s .found .at; over = true }) (s .words)))
+  unfoldable pub note : ℕ → Ring → State → State
+  note allowance ring s =
+      cond (s .found .over) s
+      (cond (ltb (s .found .rings) allowance)
+      (wrote ring s)
+      (state (record { rings = s .found .rings; at = s .found .at; over = true }) (s .words)))
 
-unfoldable pub noteAll : ℕ → List (List ℕ) → State → State
-noteAll allowance [] s = s
-noteAll allowance (r ∷ rs) s = noteAll allowance rs (note allowance r s)
+  unfoldable pub noteAll : ℕ → List Ring → State → State
+  noteAll allowance [] s = s
+  noteAll allowance (r ∷ rs) s = noteAll allowance rs (note allowance r s)
 
 abbrev pub none : Found
 none = record { rings = 0; at = 0; over = false }
@@ -80,16 +84,18 @@ pub record Grows (n : ℕ) (table dist : List ℕ) (k : ℕ) (words : List ℕ) 
   pub atoms : PathIn n words (k - left)
 
 pub record Notes (allowance : ℕ) (xs : List (List ℕ)) (found : Found) (before : List ℕ) (r : Found) (after : List ℕ) : Type 0 where
-  pub result : state r after ≡ noteAll allowance xs (state found before)
+  pub result : state r after ≡ noteAll length plain allowance xs (state found before)
   pub words : Fits r
 
 pub record Grew (allowance : ℕ) (xs : List (List ℕ)) (found : Found) (before : List ℕ) (r : Found) (after : List ℕ) (len : ℕ) (path path′ : List ℕ) : Type 0 where
-  pub result : state r after ≡ noteAll allowance xs (state found before)
+  pub result : state r after ≡ noteAll length plain allowance xs (state found before)
   pub words : Fits r
   pub kept : take len path′ ≡ take len path
   pub room : length path′ ≡ length path
 
 pub record Tallied (n : ℕ) (table dist : List ℕ) (m allowance : ℕ) (before : List ℕ) (r : Tally) (after : List ℕ) : Type 0 where
-  pub result : state (r .found) after ≡ noteAll allowance (ringsUpTo mayFollow n table dist m) (state none before)
+  pub result : state (r .found) after ≡ noteAll length plain allowance (ringsUpTo mayFollow n table dist m) (state none before)
   pub words : Fits (r .found)
   pub each : r .found .over ≡ false → r .counts ≡ countsUpTo mayFollow n table dist m
+  pub bounded : r .lengths ≤ ringMost * r .found .rings
+  pub sum : r .found .over ≡ false → r .lengths ≡ lengthsUpTo mayFollow n table dist m

@@ -4,24 +4,22 @@ use census::Census;
 use census::average;
 use network::Answer;
 ghost use mathlib.Core.Path.{_≡_};
-ghost use Prim.Native.Nat.{_≤_};
+ghost use Prim.Native.Nat.{_*_, _≤_};
 ghost use Rattle.network.specs.Network.{Counted};
-ghost use Rattle.ring.specs.Maxima.{allowanceMost};
+ghost use Rattle.ring.specs.Maxima.{ringMost, allowanceMost};
 ghost use Rattle.census.specs.Census.{censusWith};
-ghost use Rattle.search.specs.State.{Fits};
 
 // What an accepted call says of the rings found.
 pub fn accepted(n: usize, limit: usize, tally: Tally) -> Census
     requires { ⌜ Counted n ⌝ }
-    requires { ⌜ Fits (tally .found) × ((tally .found .rings ≤ tally .found .at) × (tally .found .rings ≤ allowanceMost)) ⌝ }
-    ensures { λ r. ⌜ r ≡ censusWith n limit (tally .counts) (tally .found .rings) (tally .found .at) ⌝ }
+    requires { ⌜ tally .lengths ≤ ringMost * allowanceMost ⌝ }
+    ensures { λ r. ⌜ r ≡ censusWith n limit (tally .counts) (tally .found .rings) (tally .lengths) (tally .found .at) ⌝ }
 {
     let answer = Answer::accepted();
     let counts = tally.counts;
     let total = tally.found.rings;
     let words = tally.found.at;
-    let lengths = words - total as usize;
-    let averages = average::averages_of(n as u32, total, lengths as u32);
+    let averages = average::averages_of(n as u32, total, tally.lengths as u32);
     Census {
         answer,
         limit,

@@ -15,9 +15,10 @@ ghost use Rattle.search.specs.Search.{extend, ringsOf};
 ghost use Rattle.search.specs.Turn.{mayFollow, Hint};
 ghost use Rattle.search.specs.State.{Net, Grows, Fits, Notes, Grew, Tallied};
 
-// What is found, with a count for each length.
+// What is found, with a count for each length, and the lengths of the rings added up.
 pub struct Tally {
     pub counts: [u32; Ring::LENGTH + 1],
+    pub lengths: usize,
     pub found: Found,
 }
 
@@ -39,6 +40,7 @@ pub fn each_length(
         over: false,
     };
     let mut counts = [0u32; Ring::LENGTH + 1];
+    let mut lengths: usize = 0;
     let many = limit + 1 - Ring::LEAST;
     let mut j: usize = 0;
     while j < many {
@@ -46,10 +48,15 @@ pub fn each_length(
         let next = from_each(n, table, dist, k, allowance, found, list);
         let more = next.rings - found.rings;
         counts[k] = more;
+        lengths += k * more as usize;
         found = next;
         j += 1;
     }
-    Tally { counts, found }
+    Tally {
+        counts,
+        lengths,
+        found,
+    }
 }
 
 // Every ring of k atoms, first atoms ascending.

@@ -2,7 +2,7 @@ use Prim.Native.Nat.{_≤_}
 use native.Mathlib.Omega.{arith}
 use borrow.Author.Needs.{needs}
 use Rattle.ring.specs.Maxima.{allowanceMost}
-use Rattle.search.proofs.Outcomes.{out-refused, passed, net, sums, count-0, count-12}
+use Rattle.search.proofs.Outcomes.{out-refused, passed, net, small, count-0, count-12}
 use Rattle.search.proofs.count.Statement.{statement}
 use Rattle.search.proofs.count.Tie as tie
 
@@ -43,7 +43,7 @@ returns-2 : tie.Need-returns-2
 returns-2 c = count-12 _ _ _ _ _ _ _ (c .before .before .before .before .before .before .before .before .before .before .before .before .prepare .ensures) (c .before .before .before .before .before .before .before .before .if1 .left) _ (c .before .before .before .before .before .before .before .limit-used .ensures) _ _ _ (c .before .before .before .before .each-length .ensures) _ _ (c .before .before .if2 .taken) (c .before .refused2 .ensures) (c .refused3 .ensures)
 
 accepted-requires : tie.Need-accepted-requires
-accepted-requires c κs = (passed _ _ _ _ _ _ _ (c .before .before .before .before .before .before .before .before .before .before .prepare .ensures) (c .before .before .before .before .before .before .if1 .left) .network .counted, sums _ _ _ _ _ _ _ (c .before .before .before .before .before .before .before .before .before .before .prepare .ensures) (c .before .before .before .before .before .before .if1 .left) _ (c .before .before .before .before .before .limit-used .ensures) _ _ _ (c .before .before .each-length .ensures) (c .if2 .left))
+accepted-requires c κs = (passed _ _ _ _ _ _ _ (c .before .before .before .before .before .before .before .before .before .before .prepare .ensures) (c .before .before .before .before .before .before .if1 .left) .network .counted, small _ _ _ _ _ _ _ (c .before .before .before .before .before .before .before .before .before .before .prepare .ensures) (c .before .before .before .before .before .before .if1 .left) _ (c .before .before .before .before .before .limit-used .ensures) _ _ _ (c .before .before .each-length .ensures) (c .if2 .left))
 
 same-length-3 : tie.Need-same-length-3
 same-length-3 c = search needs

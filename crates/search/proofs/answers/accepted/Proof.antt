@@ -6,12 +6,6 @@ use Rattle.search.proofs.answers.accepted.Tie as tie
 accepted-requires : tie.Need-accepted-requires
 accepted-requires c κs = search needs
 
-cast-lengths : tie.Need-cast-lengths
-cast-lengths c = search needs
-
-sub-lengths : tie.Need-sub-lengths
-sub-lengths c = search needs
-
 cast-averages-of : tie.Need-cast-averages-of
 cast-averages-of c = search needs
 
@@ -22,15 +16,13 @@ averages-of-requires : tie.Need-averages-of-requires
 averages-of-requires c κs = search needs
 
 returns : tie.Need-returns
-returns c = rw (averages-told _ _ (c .averages-of .ensures), c .before .before .accepted .ensures)
+returns c = rw (averages-told _ _ (c .averages-of .ensures), c .before .before .before .accepted .ensures)
 
 pub accepted-spec : {M : Type 1} → statement M
 accepted-spec =
     tie.close
     (tie.spec
     accepted-requires
-    cast-lengths
-    sub-lengths
     cast-averages-of
     cast-averages-of-2
     averages-of-requires

@@ -8,6 +8,7 @@ use borrow.Author.Needs.{needs}
 use borrow.Fn.Kinds.{In}
 use borrow.Fn.PlainCycle.{Measures, is, falls, and}
 use Rattle.network.specs.Maxima.{places}
+use Rattle.census.specs.Census.{plain}
 use Rattle.search.specs.State.{state, noteAll, Fits}
 use Rattle.search.specs.Turn.{mayFollow}
 use Rattle.search.specs.Search.{gatherBelow, branch}
@@ -40,13 +41,13 @@ abbrev callees : ℕ → grow-lts.Claims
 callees t = (complete-reads.Asked, complete-reads.Learnt, atom-at-reads.Asked, atom-at-reads.Learnt, place-at-reads.Asked, place-at-reads.Learnt, wide-reads.Asked, wide-reads.Learnt, may-follow-reads.Asked, may-follow-reads.Learnt, grow-below t, grow.Post)
 
 abbrev grow-Inv-loop : grow-lts.InvT-loop
-grow-Inv-loop n table dist k path₀ left from allowance list₀ len last f₀ i₀ path list f i = (i ≤ places) × ((length list ≡ length list₀) × ((state f list ≡ noteAll allowance (gatherBelow i (branch (mayFollow n dist k) n table dist k (left - 1) (take len path₀))) (state f₀ list₀)) × (Fits f × ((take len path ≡ take len path₀) × (length path ≡ length path₀)))))
+grow-Inv-loop n table dist k path₀ left from allowance list₀ len last f₀ i₀ path list f i = (i ≤ places) × ((length list ≡ length list₀) × ((state f list ≡ noteAll length plain allowance (gatherBelow i (branch (mayFollow n dist k) n table dist k (left - 1) (take len path₀))) (state f₀ list₀)) × (Fits f × ((take len path ≡ take len path₀) × (length path ≡ length path₀)))))
 
 abbrev grow-μ-loop : grow-lts.MeasureT-loop
 grow-μ-loop n table dist k path₀ left from allowance list₀ len last f₀ i₀ path list f i = places - i
 
 grow-returns : (t : ℕ) → grow-lts.Need-returns (callees t) (grow-at t) grow.Post grow-Inv-loop grow-μ-loop
-grow-returns t c = record { result = all-over _ _ _ _ (c .if1 .taken); words = c .before .before .before .before .pre .1 .1 .0; kept = refl; room = refl }
+grow-returns t c = record { result = all-over length plain _ _ _ _ (c .if1 .taken); words = c .before .before .before .before .pre .1 .1 .0; kept = refl; room = refl }
 
 grow-complete-requires : (t : ℕ) → grow-lts.Need-complete-requires (callees t) (grow-at t) grow.Post grow-Inv-loop grow-μ-loop
 grow-complete-requires t c κs = let s = c .before .before .before .before .before .before .before in

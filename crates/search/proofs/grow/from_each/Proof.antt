@@ -4,6 +4,7 @@ use native.Mathlib.Omega.{arith}
 use lib.ListN.{length, length-set}
 use borrow.Author.Needs.{needs}
 use Rattle.ring.specs.Maxima.{ringMost}
+use Rattle.census.specs.Census.{plain}
 use Rattle.search.specs.State.{state, noteAll, Fits}
 use Rattle.search.specs.Turn.{mayFollow}
 use Rattle.search.specs.Search.{gatherBelow, ringsFrom, ringsOf}
@@ -14,7 +15,7 @@ use Rattle.search.proofs.grow.from_each.Statement.{statement}
 use Rattle.search.proofs.grow.from_each.Tie as tie
 
 abbrev Inv-loop : tie.InvT-loop
-Inv-loop n table dist k allowance list₀ path₀ f₀ a₀ list path f a = (a ≤ n) × ((length list ≡ length list₀) × ((state f list ≡ noteAll allowance (gatherBelow a (ringsFrom mayFollow n table dist k)) (state f₀ list₀)) × (Fits f × (length path ≡ ringMost))))
+Inv-loop n table dist k allowance list₀ path₀ f₀ a₀ list path f a = (a ≤ n) × ((length list ≡ length list₀) × ((state f list ≡ noteAll length plain allowance (gatherBelow a (ringsFrom mayFollow n table dist k)) (state f₀ list₀)) × (Fits f × (length path ≡ ringMost))))
 
 abbrev μ-loop : tie.MeasureT-loop
 μ-loop n table dist k allowance list₀ path₀ f₀ a₀ list path f a = n - a
