@@ -1,8 +1,8 @@
 // The first pair of places of a candidate whose network distance is shorter than the ring distance.
+use ring::Ring;
 ghost use mathlib.Core.Path.{_≡_};
 ghost use Prim.Native.Nat.{_+_, _*_, _≤_, _<_};
 ghost use lib.ListN.{length};
-ghost use Rattle.graph.specs.Graph.{around};
 ghost use Rattle.network.specs.Maxima.{atomsMost};
 ghost use Rattle.ring.specs.Maxima.{ringMost};
 ghost use Rattle.ring.specs.CandidateVerdict.{AtomsBelow};
@@ -46,16 +46,5 @@ fn is_short(n: usize, ring: &[u16], dist: &[u8], i: usize, j: usize) -> bool
     let from = ring[i] as usize;
     let to = ring[j] as usize;
     let bonds = dist[from * n + to] as usize;
-    bonds < ring_distance(ring.len(), j - i)
-}
-
-// The shorter way round a ring of k between places g apart.
-fn ring_distance(k: usize, g: usize) -> usize
-    requires { ⌜ g ≤ k ⌝ }
-    ensures { λ r. ⌜ r ≡ around k g ⌝ }
-{
-    if k - g < g {
-        return k - g;
-    }
-    g
+    bonds < Ring::around(ring.len(), j - i)
 }

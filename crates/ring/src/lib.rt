@@ -4,6 +4,7 @@ mod writing;
 
 ghost use mathlib.Core.Path.{_≡_};
 ghost use lib.ListN.{length, replicate};
+ghost use Rattle.graph.specs.Graph.{around};
 ghost use Rattle.ring.specs.Maxima.{ringLeast, ringMost, limitDefault, allowanceMost};
 ghost use Rattle.ring.specs.Writes.{lengthOf, atomsOf, lengthFrom, atomsFrom};
 
@@ -47,6 +48,16 @@ impl Ring {
             return Ring::none();
         }
         writing::read(words, start, onwards)
+    }
+
+    // The shorter way round a ring of k between places g apart; 0 where the ring has fewer places.
+    pub fn around(k: usize, g: usize) -> usize
+        ensures { λ r. ⌜ r ≡ around k g ⌝ }
+    {
+        if k < g {
+            return 0;
+        }
+        if g < k - g { g } else { k - g }
     }
 
     pub fn none() -> Ring

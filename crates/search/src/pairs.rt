@@ -3,7 +3,6 @@ use ring::Ring;
 ghost use mathlib.Core.Path.{_≡_};
 ghost use Prim.Native.Nat.{_+_, _-_, _*_, _<_, _≤_};
 ghost use lib.ListN.{length, getD, take};
-ghost use Rattle.graph.specs.Graph.{around};
 ghost use Rattle.distance.specs.Distances.{distance};
 ghost use Rattle.ring.specs.Maxima.{ringLeast};
 ghost use Rattle.search.specs.Search.{pairFits, fitsBefore, everyPair, isRing};
@@ -81,7 +80,7 @@ pub fn pair_fits(
 {
     let x = atom_at(n, path, len, i);
     let d = far(n, dist, x, y);
-    let w = way(k, at - i);
+    let w = Ring::around(k, at - i);
     d == w
 }
 
@@ -102,14 +101,6 @@ pub fn far(n: usize, dist: &[u8], a: usize, b: usize) -> usize
 {
     let i = a * n + b;
     dist[i] as usize
-}
-
-// The shorter way round a ring of k between places d apart.
-pub fn way(k: usize, d: usize) -> usize
-    requires { ⌜ d ≤ k ⌝ }
-    ensures { λ r. ⌜ r ≡ around k d ⌝ }
-{
-    if d < k - d { d } else { k - d }
 }
 
 pub fn wide(x: u16) -> usize

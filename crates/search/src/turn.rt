@@ -91,7 +91,7 @@ fn look_ahead(
         return from;
     }
     let at = k / 2 + 1;
-    let w = pairs::way(k, at - len);
+    let w = Ring::around(k, at - len);
     let mut y = next_at(n, dist, a, w, from);
     while y < n {
         if pairs::fits_before(n, dist, k, path, len, len, at, y) {

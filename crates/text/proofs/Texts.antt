@@ -80,12 +80,12 @@ module _ (s : Page) where
   listing-is n bonds words counts total a b c d h k m l = then _ _ s a d h (then _ _ a b d k (then _ _ b c d m l))
 
 -- the words of a list from place i on
-pub words-next : (ws : List ℕ) (i left w rest : ℕ) (s t r : Page) → putAll (wordsText left (drop i ws)) s ≡ r → i < length ws → w ≡ getD ws i 0
-    → t ≡ putAll (wordText left w) s → rest ≡ leftAfter left w → putAll (wordsText rest (drop (i + 1) ws)) t ≡ r
+pub words-next : (ws : List ℕ) (i left rest : ℕ) (s t r : Page) → putAll (wordsText left (drop i ws)) s ≡ r → i < length ws
+    → t ≡ putAll (wordText left (getD ws i 0)) s → rest ≡ leftAfter left (getD ws i 0) → putAll (wordsText rest (drop (i + 1) ws)) t ≡ r
 unfolding wordsText
-words-next ws i left w rest s t r h k g e f =
-    ap (λ (m : ℕ). putAll (wordsText m (drop (i + 1) ws)) t) (f ∙ ap (leftAfter left) g)
-    ∙ ap (putAll (wordsText (leftAfter left (getD ws i 0)) (drop (i + 1) ws))) (e ∙ ap (λ (m : ℕ). putAll (wordText left m) s) g)
+words-next ws i left rest s t r h k e f =
+    ap (λ (m : ℕ). putAll (wordsText m (drop (i + 1) ws)) t) f
+    ∙ ap (putAll (wordsText (leftAfter left (getD ws i 0)) (drop (i + 1) ws))) e
     ∙ put-all-join (wordText left (getD ws i 0)) _ s
     ∙ sym (ap (λ (q : List ℕ). putAll (wordsText left q) s) (drop-cons ws i 0 k ∙ ap (λ (n : ℕ). getD ws i 0 ∷ drop n ws) (sym (add-one i))))
     ∙ h

@@ -22,18 +22,12 @@ pub fn rings(out: &mut [u8], pen: Pen, list: &[u16]) -> Pen
     let mut left = 0;
     let mut i = 0;
     while i < list.len() {
-        let w = wide(list[i]);
+        let w = list[i] as usize;
         p = word(out, p, left, w);
         left = left_after(left, w);
         i += 1;
     }
     p
-}
-
-fn wide(x: u16) -> usize
-    ensures { λ r. ⌜ r ≡ x ⌝ }
-{
-    x as usize
 }
 
 // The atoms of the present ring that are still to come after the word w, where `left` were before it.

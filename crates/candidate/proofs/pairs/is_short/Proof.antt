@@ -47,14 +47,14 @@ cast-bonds c =
     let r = start .args .ring .now in
     omega (arith, c .shared-slice-known5 .given (getD r (start .args .i) 0 * start .args .n + getD r (start .args .j) 0))
 
-sub-ring-distance : tie.Need-sub-ring-distance
-sub-ring-distance c = search needs
+sub-around : tie.Need-sub-around
+sub-around c = search needs
 
-ring-distance-requires : tie.Need-ring-distance-requires
-ring-distance-requires c κs = search needs
+around-requires : tie.Need-around-requires
+around-requires c κs = search needs
 
 returns : tie.Need-returns
-returns c = ap (ltb _) (c .ring-distance .ensures)
+returns c = ap (ltb _) (c .around .ensures)
 
 pub is-short-spec : {M : Type 1} → statement M
 is-short-spec =
@@ -70,6 +70,6 @@ is-short-spec =
     add-bonds
     shared-slice-read-bonds
     cast-bonds
-    sub-ring-distance
-    ring-distance-requires
+    sub-around
+    around-requires
     returns)

@@ -1,4 +1,4 @@
-use native.Mathlib.Omega.{arith}
+use borrow.Author.Needs.{needs}
 use Rattle.search.proofs.Paths.{pair-told}
 use Rattle.search.proofs.pairs.pair_fits.Statement.{statement}
 use Rattle.search.proofs.pairs.pair_fits.Tie as tie
@@ -10,14 +10,14 @@ far-requires : tie.Need-far-requires
 far-requires c κs = let s = c .before .before in
     (s .pre .0 .square, (c .atom-at .ensures .1, s .pre .1 .1 .1 .1))
 
-sub-way : tie.Need-sub-way
-sub-way c = c .before .before .before .pre .1 .1 .0
+sub-around : tie.Need-sub-around
+sub-around c = c .before .before .before .pre .1 .1 .0
 
-way-requires : tie.Need-way-requires
-way-requires c κs = omega (arith, c .before .before .before .pre .1 .1 .1 .0)
+around-requires : tie.Need-around-requires
+around-requires c κs = search needs
 
 returns : tie.Need-returns
-returns c = pair-told _ _ _ _ _ _ _ (c .before .before .atom-at .ensures .0) (c .before .far .ensures) (c .way .ensures)
+returns c = pair-told _ _ _ _ _ _ _ (c .before .before .atom-at .ensures .0) (c .before .far .ensures) (c .around .ensures)
 
 pub pair-fits-spec : {M : Type 1} → statement M
-pair-fits-spec = tie.close (tie.spec atom-at-requires far-requires sub-way way-requires returns)
+pair-fits-spec = tie.close (tie.spec atom-at-requires far-requires sub-around around-requires returns)
