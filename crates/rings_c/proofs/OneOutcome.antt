@@ -7,14 +7,9 @@ use Rattle.candidate.specs.CandidateOutcome.{CandidateOutcome}
 use Rattle.candidate.proofs.Outcomes as ring
 use Rattle.census.specs.Census.{CountOutcome, ListOutcome}
 use Rattle.census.proofs.OneOutcome as search
-use Rattle.bnw.specs.Reading.{Reads}
-use Rattle.bnw.specs.Writing.{Writes}
-use Rattle.bnw.proofs.RoundTrips.{reads-one, writes-one}
 use Rattle.rings_c.specs.declared.FlatCensus.{FlatCensus}
 use Rattle.rings_c.specs.declared.FlatCandidate.{FlatCandidate}
-use Rattle.rings_c.specs.declared.FlatReading.{FlatReading}
-use Rattle.rings_c.specs.declared.FlatWritten.{FlatWritten}
-use Rattle.rings_c.specs.Flat.{flatCensus, flatCandidate, flatReading, flatWritten, PassedOn}
+use Rattle.rings_c.specs.Flat.{flatCensus, flatCandidate, PassedOn}
 
 -- where a contract settles the call's own answer, the flat one is settled too
 flat-once : {Own Flat : Type 0} (flat : Own → Flat) (C D : Own → Type 0) (Same : Type 0) → ((c d : Own) → C c → D d → (c ≡ d) × Same)
@@ -36,11 +31,3 @@ module _ (n : ℕ) (t : List ℕ) where
     pub list-once : (l l′ l″ : List ℕ) (r s : FlatCensus) → PassedOn flatCensus (ListOutcome n t limit allowance before after l l′) r
         → PassedOn flatCensus (ListOutcome n t limit allowance before after′ l l″) s → (r ≡ s) × ((after ≡ after′) × (l′ ≡ l″))
     list-once l l′ l″ = flat-once flatCensus _ _ _ (λ c d C D. let o = search.list-once n t limit allowance before l after after′ l′ l″ c d C D in (o .0, (o .1, o .2)))
-
-  pub write-once : (before after after′ : List ℕ) (r s : FlatWritten) → PassedOn flatWritten (Writes n t before after) r
-      → PassedOn flatWritten (Writes n t before after′) s → (r ≡ s) × (after ≡ after′)
-  write-once before after after′ = flat-once flatWritten _ _ _ (writes-one n t before after after′)
-
-pub read-once : (file before after after′ : List ℕ) (r s : FlatReading) → PassedOn flatReading (Reads file before after) r
-    → PassedOn flatReading (Reads file before after′) s → (r ≡ s) × (after ≡ after′)
-read-once file before after after′ = flat-once flatReading _ _ _ (reads-one file before after after′)

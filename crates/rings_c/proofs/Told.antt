@@ -16,11 +16,9 @@ use Rattle.census.specs.declared.Mean.{Mean}
 use Rattle.census.specs.declared.Mean.the-variants.{Of, NoRings}
 use Rattle.census.specs.declared.Census.{Census}
 use Rattle.census.specs.Averages.{meanValues}
-use Rattle.bnw.specs.declared.Reading.{Reading}
-use Rattle.bnw.specs.declared.Written.{Written}
 use Rattle.rings_c.specs.declared.FlatCensus.{FlatCensus}
 use Rattle.rings_c.specs.declared.FlatCandidate.{FlatCandidate}
-use Rattle.rings_c.specs.Flat.{flatCensus, flatCandidate, flatReading, flatWritten}
+use Rattle.rings_c.specs.Flat.{flatCensus, flatCandidate}
 
 abbrev pub toldMean : Bool → Float → Mean
 toldMean true x = Of x
@@ -42,12 +40,6 @@ mean-told NoRings = refl
 
 pub census-told : (c : Census) → toldCensus (flatCensus c) ≡ c
 census-told c = rw (mean-told (c .averages .mean))
-
-pub reading-told : (r : Reading) → record { answer = flatReading r .answer; atoms = flatReading r .atoms; bonds = flatReading r .bonds; value = flatReading r .value } ≡ r
-reading-told r = refl
-
-pub written-told : (w : Written) → record { answer = flatWritten w .answer; bytes = flatWritten w .bytes } ≡ w
-written-told w = refl
 
 -- of a candidate the code tells whether it is refused
 abbrev pub toldShortest : ℕ → Bool → ℕ → ℕ → Shortest

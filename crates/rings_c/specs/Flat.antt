@@ -2,7 +2,6 @@
 --
 --   flatCensus c                what counting and listing answer: the mean by its values, number 1 where there is one
 --   flatCandidate c             what the test of a candidate answers: by its values, number 1 for yes
---   flatReading r, flatWritten w    what reading and writing answer
 --   PassedOn flat Contract r    r is the flat form of an answer with this contract
 use mathlib.Core.Path.{_≡_}
 use lib.Dec.{eqb}
@@ -10,12 +9,8 @@ use Rattle.candidate.specs.declared.Tested.{Tested}
 use Rattle.candidate.specs.CandidateOutcome.{values}
 use Rattle.census.specs.declared.Census.{Census}
 use Rattle.census.specs.Averages.{meanValues}
-use Rattle.bnw.specs.declared.Reading.{Reading}
-use Rattle.bnw.specs.declared.Written.{Written}
 use Rattle.rings_c.specs.declared.FlatCensus.{FlatCensus}
 use Rattle.rings_c.specs.declared.FlatCandidate.{FlatCandidate}
-use Rattle.rings_c.specs.declared.FlatReading.{FlatReading}
-use Rattle.rings_c.specs.declared.FlatWritten.{FlatWritten}
 
 abbrev pub flatCensus : Census → FlatCensus
 flatCensus c = record {
@@ -37,12 +32,6 @@ flatCandidate c = record {
   second = values (c .shortest) .second;
   writing = c .writing;
 }
-
-abbrev pub flatReading : Reading → FlatReading
-flatReading r = record { answer = r .answer; atoms = r .atoms; bonds = r .bonds; value = r .value }
-
-abbrev pub flatWritten : Written → FlatWritten
-flatWritten w = record { answer = w .answer; bytes = w .bytes }
 
 pub record PassedOn {Own Flat : Type 0} (flat : Own → Flat) (Contract : Own → Type 0) (r : Flat) : Type 0 where
   pub own : Own

@@ -1,10 +1,6 @@
 // The answers of the calls as C has them.
 use crate::FlatCandidate;
 use crate::FlatCensus;
-use crate::FlatReading;
-use crate::FlatWritten;
-use bnw::Reading;
-use bnw::Written;
 use candidate::Shortest;
 use candidate::Tested;
 use census::Census;
@@ -13,7 +9,7 @@ ghost use mathlib.Core.Path.{_≡_};
 ghost use lib.Dec.{eqb};
 ghost use Rattle.candidate.specs.CandidateOutcome.{values};
 ghost use Rattle.census.specs.Averages.{meanValues};
-ghost use Rattle.rings_c.specs.Flat.{flatCensus, flatCandidate, flatReading, flatWritten};
+ghost use Rattle.rings_c.specs.Flat.{flatCensus, flatCandidate};
 
 // What counting and listing answer: the mean with a flag.
 pub fn flat_census(c: Census) -> FlatCensus
@@ -48,30 +44,6 @@ pub fn flat_candidate(c: Tested) -> FlatCandidate
         first: first(shortest),
         second: second(shortest),
         writing,
-    }
-}
-
-// What reading answers, field by field.
-pub fn flat_reading(c: Reading) -> FlatReading
-    ensures { λ r. ⌜ r ≡ flatReading c ⌝ }
-{
-    let answer = c.answer;
-    FlatReading {
-        answer,
-        atoms: c.atoms,
-        bonds: c.bonds,
-        value: c.value,
-    }
-}
-
-// What writing answers, field by field.
-pub fn flat_written(c: Written) -> FlatWritten
-    ensures { λ r. ⌜ r ≡ flatWritten c ⌝ }
-{
-    let answer = c.answer;
-    FlatWritten {
-        answer,
-        bytes: c.bytes,
     }
 }
 

@@ -1,8 +1,11 @@
 // The library for C and for every language that calls C, as include/rings.h declares it.
 //
-// Each function passes on one call and has that call's contract; a slice crosses as pointer and length, an answer as a flat struct.
+// Each function passes on one call and has that call's contract; a slice crosses as pointer and length, an
+// answer that holds an enum as a flat struct.
 mod flat;
 
+use bnw::Reading;
+use bnw::Written;
 use network::Answer;
 use ring::Ring;
 ghost use mathlib.Core.Path.{_≡_};
@@ -14,7 +17,7 @@ ghost use Rattle.bnw.specs.Writing.{Writes};
 ghost use Rattle.report.specs.Report.{Responds};
 ghost use Rattle.distance.specs.Outcome as distance;
 ghost use Rattle.renumber.specs.Outcome as renumber;
-ghost use Rattle.rings_c.specs.Flat.{flatCensus, flatCandidate, flatReading, flatWritten, PassedOn};
+ghost use Rattle.rings_c.specs.Flat.{flatCensus, flatCandidate, PassedOn};
 
 // What counting and listing answer.
 #[repr(C)]
@@ -47,23 +50,6 @@ pub struct FlatCandidate {
     pub second: usize,
     // Where it is, its one writing; the other words are 0.
     pub writing: [u16; Ring::LENGTH],
-}
-
-// What reading answers.
-#[repr(C)]
-pub struct FlatReading {
-    pub answer: Answer,
-    pub atoms: usize,
-    pub bonds: usize,
-    // The count field that refusals 22 and 23 name.
-    pub value: i32,
-}
-
-// What writing answers.
-#[repr(C)]
-pub struct FlatWritten {
-    pub answer: Answer,
-    pub bytes: usize,
 }
 
 // The first fault of a bond table.
@@ -142,20 +128,18 @@ pub extern "C" fn rings_renumber(
 
 // The network of a file.
 #[no_mangle]
-pub extern "C" fn rings_read(file: &[u8], table: &mut [u16]) -> FlatReading
-    ensures { λ r. ⌜ PassedOn flatReading (Reads (now (file .entry)) (now (table .entry)) (now (table .exit))) r ⌝ }
+pub extern "C" fn rings_read(file: &[u8], table: &mut [u16]) -> Reading
+    ensures { λ r. ⌜ Reads (now (file .entry)) (now (table .entry)) (now (table .exit)) r ⌝ }
 {
-    let reading = bnw_reader::read(file, table);
-    flat::flat_reading(reading)
+    bnw_reader::read(file, table)
 }
 
 // The file of a network.
 #[no_mangle]
-pub extern "C" fn rings_write(n: usize, table: &[u16], file: &mut [u8]) -> FlatWritten
-    ensures { λ r. ⌜ PassedOn flatWritten (Writes n (now (table .entry)) (now (file .entry)) (now (file .exit))) r ⌝ }
+pub extern "C" fn rings_write(n: usize, table: &[u16], file: &mut [u8]) -> Written
+    ensures { λ r. ⌜ Writes n (now (table .entry)) (now (file .entry)) (now (file .exit)) r ⌝ }
 {
-    let written = bnw_writer::write(n, table, file);
-    flat::flat_written(written)
+    bnw_writer::write(n, table, file)
 }
 
 // What the listing program prints for a file.
