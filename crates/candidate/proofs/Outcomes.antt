@@ -26,7 +26,8 @@ use Rattle.ring.specs.Writes.{padded, Writes}
 use Rattle.ring.specs.CandidateVerdict.{candidateVerdict, AtomsBelow}
 use Rattle.candidate.specs.ShorterPairs.{shortAfter, shortPlace}
 use Rattle.candidate.specs.CandidateOutcome.{Values, values, Shorter, FirstPair, Says, CandidateOutcome}
-use Rattle.ring.proofs.CandidateVerdicts.{Accepted, accepted-exactly, ring-atoms}
+use Rattle.ring.specs.RightCandidate.{RightCandidate}
+use Rattle.ring.proofs.CandidateVerdicts.{accepted-exactly, ring-atoms}
 use Rattle.candidate.proofs.Values.{number, alike, values-tell}
 use Rattle.candidate.proofs.ShorterPairs.{yes-shortest, no-pair}
 
@@ -44,7 +45,7 @@ module _ (n : ℕ) (t r before : List ℕ) (a : Answer) (e : a ≡ candidateVerd
   }
 
   module _ (z : a .code ≡ 0) where
-    pub passed : Accepted n t r before
+    pub passed : RightCandidate n t r before
     passed = accepted-exactly n t r before .0 (ap code (sym e) ∙ z)
 
     pub passed-atoms : AtomsBelow n r
@@ -147,13 +148,13 @@ module _ (n : ℕ) (t r before after : List ℕ) (c : Tested) (C : CandidateOutc
       go (inl h) = (h .3, h .4)
       go (inr h) = absurd (omega (arith, ap number (ap values (sym e)) ∙ h .0))
 
-  accepted-candidate : c .answer .code ≡ 0 → Accepted n t r before
+  accepted-candidate : c .answer .code ≡ 0 → RightCandidate n t r before
   accepted-candidate z = accepted-exactly n t r before .0 (ap code (sym (C .answer)) ∙ z)
 
-  candidate-accepted : Accepted n t r before → c .answer .code ≡ 0
+  candidate-accepted : RightCandidate n t r before → c .answer .code ≡ 0
   candidate-accepted A = ap code (C .answer) ∙ accepted-exactly n t r before .1 A
 
-  pub yes-exactly : (c .shortest ≡ Yes) ↔ (Accepted n t r before × ShortestPathRing (Bonded t) 0 r)
+  pub yes-exactly : (c .shortest ≡ Yes) ↔ (RightCandidate n t r before × ShortestPathRing (Bonded t) 0 r)
   yes-exactly = (λ e. (accepted-candidate (yes-accepted e), yes-says e .0), λ h. go (h .1) (C .says (candidate-accepted (h .0))))
     where
       go : ShortestPathRing (Bonded t) 0 r → Says t r (values (c .shortest)) (c .writing) → c .shortest ≡ Yes
@@ -169,10 +170,10 @@ pub same-ring : (n : ℕ) (t r s before before′ after after′ : List ℕ) (c 
     → length before′ ≡ length before → Reading 0 r s → c .shortest ≡ Yes → (c′ .shortest ≡ Yes) × (c′ .writing ≡ c .writing)
 same-ring n t r s before before′ after after′ c c′ C C′ l R e = (also, sym (writes-unique r s (c .writing) (c′ .writing) (A .ring .three) R (yes-writes n t r before after c C e) (yes-writes n t s before′ after′ c′ C′ also)))
   where
-    h : Accepted n t r before × ShortestPathRing (Bonded t) 0 r
+    h : RightCandidate n t r before × ShortestPathRing (Bonded t) 0 r
     h = yes-exactly n t r before after c C .0 e
 
-    A : Accepted n t r before
+    A : RightCandidate n t r before
     A = h .0
 
     back : (x y : ℕ) → Bonded t x y → Bonded t y x

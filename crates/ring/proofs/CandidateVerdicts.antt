@@ -23,6 +23,7 @@ use Rattle.ring.specs.Maxima.{ringLeast, ringMost}
 use Rattle.ring.specs.Firsts.{firstOf}
 use Rattle.ring.specs.Writes.{notRing, lengthOf}
 use Rattle.ring.specs.CandidateVerdict.{outside, firstWith, seen, placeOf, apart, firstPlace, ringVerdict, candidateVerdict, AtomsBelow}
+use Rattle.ring.specs.RightCandidate.{RightCandidate}
 use Rattle.ring.proofs.Firsts.{first-of}
 use Rattle.ring.proofs.Readers.{long-enough, no-length, some-length, right-length}
 
@@ -255,18 +256,11 @@ module _ (n : ℕ) (t : List ℕ) (N : IsNetwork n t) (r : List ℕ) where
   unfolding AtomsBelow
   ring-atoms R most i l = leb-false n (getD r i 0) (of-ring R most .inside i l)
 
--- what an accepted candidate is
-pub record Accepted (n : ℕ) (t r d : List ℕ) : Type 0 where
-  pub network : IsNetwork n t
-  pub room : length d ≡ n * n
-  pub ring : Ring (Bonded t) 0 r
-  pub most : length r ≤ ringMost
-
 module _ (n : ℕ) (t r d : List ℕ) where
-  accepted-of : candidateVerdict n t r d .code ≡ 0 → Accepted n t r d
+  accepted-of : candidateVerdict n t r d .code ≡ 0 → RightCandidate n t r d
   accepted-of z = go (decLe 1 n) (decLe n atomsMost)
     where
-      go : Dec (1 ≤ n) → Dec (n ≤ atomsMost) → Accepted n t r d
+      go : Dec (1 ≤ n) → Dec (n ≤ atomsMost) → RightCandidate n t r d
       go (no l) _ = absurd (omega (arith, z, ap code (verdict-1 n t r d (not-atoms-low n (omega arith)))))
       go (yes l) (no k) = absurd (omega (arith, z, ap code (verdict-1 n t r d (not-atoms-high n (omega arith)))))
       go (yes l) (yes k) = at (ℕ-discrete (length t) (places * n)) (ℕ-discrete (length d) (n * n))
@@ -274,7 +268,7 @@ module _ (n : ℕ) (t r d : List ℕ) where
           c : Counted n
           c = record { some = l; most = k }
 
-          at : Dec (length t ≡ places * n) → Dec (length d ≡ n * n) → Accepted n t r d
+          at : Dec (length t ≡ places * n) → Dec (length d ≡ n * n) → RightCandidate n t r d
           at (no w) _ = absurd (omega (arith, z, ap code (verdict-4 n t r d c w)))
           at (yes w) (no q) = absurd (omega (arith, z, ap code (verdict-5 n t r d c w q)))
           at (yes w) (yes q) = record { network = N; room = q; ring = R .0; most = R .1 }
@@ -291,10 +285,10 @@ module _ (n : ℕ) (t r d : List ℕ) where
               R : Ring (Bonded t) 0 r × (length r ≤ ringMost)
               R = ring-exactly n t N r .0 (sym (ap code (faultless-of n t N (ringVerdict n t r))) ∙ rest)
 
-  of-accepted : Accepted n t r d → candidateVerdict n t r d .code ≡ 0
+  of-accepted : RightCandidate n t r d → candidateVerdict n t r d .code ≡ 0
   of-accepted A =
       ap code (verdict-rest n t r d (A .network .counted) (A .network .whole) (A .room) ∙ faultless-of n t (A .network) (ringVerdict n t r))
       ∙ ring-exactly n t (A .network) r .1 (A .ring, A .most)
 
-  pub accepted-exactly : (candidateVerdict n t r d .code ≡ 0) ↔ Accepted n t r d
+  pub accepted-exactly : (candidateVerdict n t r d .code ≡ 0) ↔ RightCandidate n t r d
   accepted-exactly = (accepted-of, of-accepted)
