@@ -3,6 +3,7 @@ pub mod faults;
 mod writing;
 
 ghost use mathlib.Core.Path.{_≡_};
+ghost use Prim.Native.Nat.{_≤_};
 ghost use lib.ListN.{length, replicate};
 ghost use Rattle.graph.specs.Graph.{around};
 ghost use Rattle.ring.specs.Maxima.{ringLeast, ringMost, limitDefault, allowanceMost};
@@ -50,14 +51,12 @@ impl Ring {
         writing::read(words, start, onwards)
     }
 
-    // The shorter way round a ring of k between places g apart; 0 where the ring has fewer places.
+    // The shorter way round a ring of k between places g apart; nothing is said where the ring has fewer places.
     pub fn around(k: usize, g: usize) -> usize
-        ensures { λ r. ⌜ r ≡ around k g ⌝ }
+        ensures { λ r. ⌜ (g ≤ k → r ≡ around k g) ⌝ }
     {
-        if k < g {
-            return 0;
-        }
-        if g < k - g { g } else { k - g }
+        let back = std::num::wrapping_sub_usize(k, g);
+        if g < back { g } else { back }
     }
 
     pub fn none() -> Ring
