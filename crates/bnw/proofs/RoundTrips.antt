@@ -1,7 +1,6 @@
 -- Reading and writing are each other's way back, and each contract admits one outcome.
 --
 --   read-network      an accepted file gives the table of a network
---   read-validates    and so one that the validator accepts
 --   read-write        an accepted file, read and written again, gives the same bytes
 --   write-read        an accepted network, written and read again, gives the same table, atoms and bonds
 --   accepted-exactly  a file is accepted exactly when it is what writing makes of a network for which there is room
@@ -20,8 +19,6 @@ use borrow.Author.Tests.{le-ltb}
 use Rattle.network.specs.declared.Answer.{Answer}
 use Rattle.network.specs.Maxima.{places}
 use Rattle.network.specs.Network.{IsNetwork}
-use Rattle.network.specs.Verdict.{accepted, verdict}
-use Rattle.network.proofs.Networks.{accepted-of}
 use Rattle.bnw.specs.declared.Reading.{Reading}
 use Rattle.bnw.specs.declared.Written.{Written}
 use Rattle.bnw.specs.File.{Bond, fileOf, tableOf, bondsOf}
@@ -57,9 +54,6 @@ module _ (file before after : List ℕ) (r : Reading) (R : Reads file before aft
 
   pub read-network : IsNetwork (r .atoms) (take (places * r .atoms) after)
   read-network = subst (IsNetwork (r .atoms)) (sym table-is) (table-network (r .atoms) (read-as .list) (read-as .counted) (read-as .valid))
-
-  pub read-validates : verdict (r .atoms) (take (places * r .atoms) after) ≡ accepted
-  read-validates = accepted-of (r .atoms) (take (places * r .atoms) after) read-network
 
   same-file : fileOf (r .atoms) (bondsOf (take (places * r .atoms) after)) ≡ file
   same-file = ap (λ (t : List ℕ). fileOf (r .atoms) (bondsOf t)) table-is ∙ ap (fileOf (r .atoms)) (bonds-back (r .atoms) (read-as .list) (read-as .counted) (read-as .valid)) ∙ sym (read-as .format)

@@ -3,12 +3,11 @@ use mathlib.Core.Path.{_≡_, sym, _∙_, ap, subst₂}
 use mathlib.Core.List.{List, map}
 use Prim.Native.Nat.{ℕ, suc}
 use lib.ListN.{length, length-map}
-use Rattle.graph.specs.Graph.{ShortestPathRing}
 use Rattle.graph.specs.Writing.{Reading, OneWriting}
 use Rattle.graph.specs.Listing.{RingListing}
 use Rattle.graph.specs.Carried.{KeptBy, CarriedTo}
 use Rattle.graph.proofs.Writings.{one-each}
-use Rattle.graph.proofs.Renamings.{Renaming, ring-there}
+use Rattle.graph.proofs.Renamings.{Renaming}
 use Rattle.graph.proofs.Carried.{carried-to}
 use Rattle.graph.proofs.Listings.{ring-order-strict}
 use Rattle.graph.proofs.Readings.{reading-map}
@@ -41,13 +40,6 @@ module _ (n : ℕ) (t names after : List ℕ) (N : IsNetwork n t) (O : OneToOne 
     home = renaming .there;
     undone = λ x y b. home-named n names O (homeNames n names) (inverse-exists n names O) x (bonded-from n after (R .network) x y b);
   }
-
-  -- shortest-path rings go to shortest-path rings, there and home
-  pub rings-there : (r : List ℕ) → ShortestPathRing (Bonded t) 0 r → ShortestPathRing (Bonded after) 0 (map (name names) r)
-  rings-there = ring-there renaming (bonded-back n after (R .network)) 0 0
-
-  pub rings-home : (s : List ℕ) → ShortestPathRing (Bonded after) 0 s → ShortestPathRing (Bonded t) 0 (map (name (homeNames n names)) s)
-  rings-home = ring-there renaming-home (bonded-back n t N) 0 0
 
   module _ (limit : ℕ) (xs ys : List (List ℕ)) (X : RingListing (Bonded t) limit xs) (Y : RingListing (Bonded after) limit ys) where
     pub rings-renumbered : RingsRenumbered names xs ys

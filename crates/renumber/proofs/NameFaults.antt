@@ -1,6 +1,6 @@
 -- Names without a fault are one-to-one, and a fault that is given is the first.
 use mathlib.Core.Path.{_≡_, refl, sym, _∙_, ap, subst}
-use mathlib.Core.Logic.{_⊎_, inl, inr, _↔_}
+use mathlib.Core.Logic.{_⊎_, inl, inr}
 use mathlib.Core.Bool.{Bool, true, false, cond}
 use mathlib.Core.List.{List}
 use Prim.Native.Nat.{ℕ, zero, suc, _+_, _≤_, _<_}
@@ -115,11 +115,7 @@ module _ (n : ℕ) (names : List ℕ) (long : length names ≡ n) where
       go (inl r) = absurd (not-bad (r .at) (omega (arith, r .high)) (r .bad))
       go (inr r) = r .is
 
-  -- names are accepted exactly when they are one-to-one
-  pub names-exactly : (nameFaults n names (length names) 0 accepted .code ≡ 0) ↔ OneToOne n names
-  names-exactly = (one-to-one-of, λ O. ap code (accepted-names O))
-
-  -- and refused at the first place that is bad
+  -- names are refused at the first place that is bad
   pub names-bad : (nameFaults n names (length names) 0 accepted .code ≡ 0 → ⊥) → NamesBad n names (nameFaults n names (length names) 0 accepted)
   names-bad z = go (scan n names (length names) 0)
     where

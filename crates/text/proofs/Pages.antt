@@ -1,6 +1,6 @@
 -- Writing on a page: one byte at each way through the tests, one text after another, and what stands there in the end.
-use mathlib.Core.Path.{_≡_, refl, sym, _∙_, ap, ap₂, subst}
-use mathlib.Core.Bool.{Bool, true, false}
+use mathlib.Core.Path.{_≡_, refl, sym, _∙_, ap, ap₂}
+use mathlib.Core.Bool.{true, false}
 use mathlib.Core.List.{List, [], _∷_, _++_}
 use Prim.Native.Nat.{ℕ, suc, _+_, _≤_, _<_}
 use native.Mathlib.Numerals.{add-one}
@@ -87,25 +87,3 @@ cut (x ∷ xs) l i h k =
 -- and one that has none is said not to be whole
 pub text-cut : (xs l : List ℕ) → length l < length xs → putAll xs (page start l) .pen .whole ≡ false
 text-cut xs l h = cut xs l 0 (omega arith) (omega arith)
-
--- the pen never leaves the buffer
-put-inside : (b : ℕ) (p : Pen) (l : List ℕ) → p .at ≤ length l → (put b (page p l) .pen .at ≤ length l) × (length (put b (page p l) .bytes) ≡ length l)
-put-inside b p l h = go (p .whole) refl (decLe (p .at + 1) (length l))
-  where
-    Inside : Page → Type 0
-    Inside s = (s .pen .at ≤ length l) × (length (s .bytes) ≡ length l)
-
-    go : (w : Bool) → p .whole ≡ w → Dec (p .at + 1 ≤ length l) → Inside (put b (page p l))
-    go true w (yes k) = subst Inside (put-room b p l w (omega arith)) (k, length-set l (p .at) b)
-    go true w (no k) = subst Inside (put-none b p l w (omega arith)) (h, refl)
-    go false w _ = subst Inside (put-over b p l w) (h, refl)
-
-all-inside : (xs : List ℕ) (s : Page) → s .pen .at ≤ length (s .bytes) → putAll xs s .pen .at ≤ length (s .bytes)
-unfolding putAll
-all-inside [] s h = h
-all-inside (x ∷ xs) s h =
-    let i = put-inside x (s .pen) (s .bytes) h in
-    subst (λ (n : ℕ). putAll xs (put x s) .pen .at ≤ n) (i .1) (all-inside xs (put x s) (omega arith))
-
-pub pen-inside : (xs l m : List ℕ) (p : Pen) → page p m ≡ putAll xs (page start l) → p .at ≤ length l
-pen-inside xs l m p e = subst (λ (s : Page). s .pen .at ≤ length l) (sym e) (all-inside xs (page start l) (omega arith))
