@@ -7,6 +7,9 @@ use network::Network;
 // The words of the greatest table.
 const WORDS: usize = Network::ATOMS * Network::PLACES;
 
+// The bytes of the greatest file.
+const GREATEST: usize = bnw::HEAD + bnw::BOND * bnw::BONDS;
+
 pub fn run(figure: &[u16]) {
     heads();
     atoms();
@@ -189,7 +192,7 @@ fn same(table: &[u16], read: &[u16]) {
 fn greatest() {
     let mut table = [Network::FREE; WORDS];
     models::circle(&mut table, Network::ATOMS, Network::ATOMS, 4);
-    let mut file = [0u8; 4010];
+    let mut file = [0u8; GREATEST + 1];
     let written = bnw_writer::write(Network::ATOMS, &table, &mut file);
     say::text(b"write, the most atoms and bonds");
     say::answer(written.answer);
@@ -200,10 +203,10 @@ fn greatest() {
 
 // The greatest file read again.
 fn again(file: &[u8], table: &[u16]) {
-    if file.len() < 4009 {
+    if file.len() < GREATEST {
         return;
     }
     let mut read = [0u16; WORDS];
-    show(bnw_reader::read(&file[..4009], &mut read));
+    show(bnw_reader::read(&file[..GREATEST], &mut read));
     same(table, &read);
 }
