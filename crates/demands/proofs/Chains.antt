@@ -1,5 +1,5 @@
 -- A chain of checks, as it computes, gives what it says.
-use mathlib.Core.Path.{_≡_, refl, sym, _∙_, ap, subst}
+use mathlib.Core.Path.{_≡_, refl, sym, ap, subst}
 use mathlib.Core.Logic.{inl, inr}
 use mathlib.Core.Bool.{Bool, true, false, _&&_, not}
 use mathlib.Core.List.{List}
@@ -12,12 +12,9 @@ use borrow.Author.Tests.{le-leb, lt-leb, lt-ltb, le-ltb}
 use Rattle.network.specs.declared.Answer.{Answer}
 use Rattle.network.specs.Maxima.{atomsMost, places}
 use Rattle.network.specs.Network.{Counted, IsNetwork}
-use Rattle.network.specs.Verdict.{accepted, check, notAtoms, notLong, faults, verdict}
-use Rattle.network.specs.FirstFault.{NamesFirst}
-use Rattle.network.specs.FirstFault as faulty
-use Rattle.network.proofs.Verdicts.{atoms, long, not-long, verdict-faults, faults-kept}
-use Rattle.network.proofs.Networks.{faultless-of}
-use Rattle.network.proofs.FirstFaults.{verdict-judges}
+use Rattle.network.specs.Verdict.{check, notAtoms, notLong, faults}
+use Rattle.network.proofs.Verdicts.{atoms, long, not-long}
+use Rattle.network.proofs.Networks.{table-told}
 use Rattle.ring.specs.Firsts.{firstOf}
 use Rattle.ring.specs.CandidateVerdict.{firstPlace}
 use Rattle.ring.proofs.Firsts.{first-of}
@@ -64,26 +61,7 @@ check-most c a b later Later = check-says c (ltb a b) later (b ≤ a) Later (dec
 -- the table
 pub table-says : (n : ℕ) (t : List ℕ) (later : Answer) (Later : Answers) → Counted n → length t ≡ places * n → (IsNetwork n t → Later later) → Table n t Later (faults n t later)
 unfolding Table
-table-says n t later Later C w k = go (verdict-judges n t)
-  where
-    same : verdict n t ≡ faults n t accepted
-    same = verdict-faults n t accepted C w
-
-    code : NamesFirst n t (verdict n t) → verdict n t .code ≡ 0 → ⊥
-    code (inl P) z = at (P .there)
-      where
-        at : faulty.AtPlace n t (verdict n t .row) (verdict n t .place) (verdict n t .code) → ⊥
-        at (inl h) = omega (arith, z, h .0)
-        at (inr (inl h)) = omega (arith, z, h .0)
-        at (inr (inr (inl h))) = omega (arith, z, h .0)
-        at (inr (inr (inr h))) = omega (arith, z, h .0)
-    code (inr B) z = omega (arith, z, B .eleven)
-
-    go : faulty.Judged n t (verdict n t) → Table n t Later (faults n t later)
-    go (inl h) = absurd (h .0 C)
-    go (inr (inl h)) = absurd (h .1 w)
-    go (inr (inr (inl h))) = inl (subst (NamesFirst n t) (same ∙ sym (faults-kept n t later (λ z. code (h .2) (ap (λ (a : Answer). a .code) same ∙ z)))) (h .2))
-    go (inr (inr (inr h))) = inr (h .0, subst Later (sym (faultless-of n t (h .0) later)) (k (h .0)))
+table-says n t later Later C w k = elim (table-told n t C w later) [ inl F ↦ inl F | inr h ↦ inr (h .0, subst Later (sym (h .1)) (k (h .0))) ]
 
 -- the places of a list
 pub places-says : (c : ℕ) (bad : ℕ → Bool) (k : ℕ) (later : Answer) (Bad : ℕ → Type 0) (Later : Answers)

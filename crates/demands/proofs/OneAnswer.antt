@@ -10,16 +10,14 @@ use Rattle.network.specs.declared.Answer.{Answer}
 use Rattle.network.specs.Maxima.{places}
 use Rattle.network.specs.Network.{Bonded, IsNetwork}
 use Rattle.network.specs.Verdict.{answer}
-use Rattle.network.specs.FirstFault.{AtPlace, Earlier, NamesPlace, NamesFirst}
-use Rattle.network.specs.FirstFault as table
+use Rattle.network.specs.FirstFault.{AtPlace, Unanswered, NamesFirst}
+use Rattle.network.proofs.FirstFaults.{same-place, same-answer, faultless-none, one-first}
+use Rattle.network.proofs.Networks.{clean-network}
 use Rattle.census.specs.Census.{limitOf}
 use Rattle.bnw.specs.File.{Bond}
 use Rattle.bnw.specs.FirstBond.{Misplaced, Ninth, NamesBond}
 use Rattle.demands.specs.Refusals.{Answers, OneAnswer, Check, Table, Places, OfRings, Accepted}
 use Rattle.demands.specs.FileRefusals.{Bonds}
-
-same-answer : (a b : Answer) → a .code ≡ b .code → a .row ≡ b .row → a .place ≡ b .place → a ≡ b
-same-answer a b e f g = ap₂ (λ (c x : ℕ). answer c x (a .place)) e f ∙ ap (λ (p : ℕ). answer (b .code) (b .row) p) g
 
 pub one-accepted : OneAnswer Accepted
 one-accepted a b h k = h ∙ sym k
@@ -31,10 +29,7 @@ one-check c Right Later one a b (inl h) (inr k) = absurd (h .0 (k .0))
 one-check c Right Later one a b (inr h) (inl k) = absurd (k .0 (h .0))
 one-check c Right Later one a b (inr h) (inr k) = one a b (h .1) (k .1)
 
--- the first of two places
-same-place : (p q : ℕ) → (p < q → ⊥) → (q < p → ⊥) → p ≡ q
-same-place p q h k = elim (decLt p q) [ yes l ↦ absurd (h l) | no l ↦ elim (decLt q p) [ yes m ↦ absurd (k m) | no m ↦ omega arith ] ]
-
+-- the first bad place
 pub one-places : (c : ℕ) (Bad : ℕ → Type 0) (m : ℕ) (Later : Answers) → OneAnswer Later → OneAnswer (Places c Bad m Later)
 unfolding Places
 one-places c Bad m Later one a b (inl h) (inl k) = h .4 ∙ ap (λ (p : ℕ). answer c 0 p) (same-place (h .0) (k .0) (λ l. k .3 (h .0) l (h .2)) (λ l. h .3 (k .0) l (k .2))) ∙ sym (k .4)
@@ -44,43 +39,14 @@ one-places c Bad m Later one a b (inr h) (inr k) = one a b (h .1) (k .1)
 
 -- the first fault of a table
 module _ (n : ℕ) (t : List ℕ) where
-  same-row : (x p y q : ℕ) → p < places → q < places → (Earlier x p y q → ⊥) → (Earlier y q x p → ⊥) → (x ≡ y) × (p ≡ q)
-  same-row x p y q l m h k = let e : x * places + p ≡ y * places + q = same-place (x * places + p) (y * places + q) h k in (omega (arith, e), omega (arith, e))
-
-  one-place : (a b : Answer) → NamesPlace n t a → NamesPlace n t b → a ≡ b
-  one-place a b h k =
-      let at = same-row (a .row) (a .place) (b .row) (b .place) (h .place) (k .place) (λ l. k .first (a .row) (a .place) (a .code) (h .place) l (h .there)) (λ l. h .first (b .row) (b .place) (b .code) (k .place) l (k .there)) in
-      let up : a .code ≤ b .code = h .smallest (b .code) (subst₂ (λ x p. AtPlace n t x p (b .code)) (sym (at .0)) (sym (at .1)) (k .there)) in
-      let down : b .code ≤ a .code = k .smallest (a .code) (subst₂ (λ x p. AtPlace n t x p (a .code)) (at .0) (at .1) (h .there)) in
-      same-answer a b (omega (arith, up, down)) (at .0) (at .1)
-
-  one-bond : (a b : Answer) → table.NamesBond n t a → table.NamesBond n t b → a ≡ b
-  one-bond a b h k =
-      let at = same-row (a .row) (a .place) (b .row) (b .place) (h .place) (k .place) (λ l. k .first (a .row) (a .place) (h .place) l (h .there)) (λ l. h .first (b .row) (b .place) (k .place) l (k .there)) in
-      same-answer a b (h .eleven ∙ sym (k .eleven)) (at .0) (at .1)
-
-  one-first : OneAnswer (NamesFirst n t)
-  one-first a b (inl h) (inl k) = one-place a b h k
-  one-first a b (inl h) (inr k) = absurd (k .clean (a .row) (a .place) (a .code) (h .row) (h .place) (h .there))
-  one-first a b (inr h) (inl k) = absurd (h .clean (b .row) (b .place) (b .code) (k .row) (k .place) (k .there))
-  one-first a b (inr h) (inr k) = one-bond a b h k
-
-  -- a network has none
-  faultless : (a : Answer) → IsNetwork n t → NamesFirst n t a → ⊥
-  faultless a N (inl P) = at (P .there)
-    where
-      at : AtPlace n t (a .row) (a .place) (a .code) → ⊥
-      at (inl (_, (h, l))) = omega (arith, l, N .below (a .row) (a .place) (P .row) (P .place) h)
-      at (inr (inl (_, (h, (q, l, e))))) = N .first (a .row) q (a .place) (P .row) l (P .place) h e
-      at (inr (inr (inl (_, (h, e))))) = N .other (a .row) (a .place) (P .row) (P .place) h e
-      at (inr (inr (inr (_, (h, (q, e, k, l)))))) = omega (arith, l, N .ascends (a .row) q (a .place) (P .row) (omega arith) (P .place) h)
-  faultless a N (inr B) = B .there .1 (N .answered (a .row) (a .place) (B .row) (B .place) (B .there .0))
+  none : (a : Answer) → IsNetwork n t → NamesFirst n t a → ⊥
+  none a N = faultless-none n (AtPlace n t) (Unanswered n t) (clean-network n t N) a
 
   pub one-table : (Later : Answers) → OneAnswer Later → OneAnswer (Table n t Later)
   unfolding Table
-  one-table Later one a b (inl h) (inl k) = one-first a b h k
-  one-table Later one a b (inl h) (inr k) = absurd (faultless a (k .0) h)
-  one-table Later one a b (inr h) (inl k) = absurd (faultless b (h .0) k)
+  one-table Later one a b (inl h) (inl k) = one-first n (AtPlace n t) (Unanswered n t) a b h k
+  one-table Later one a b (inl h) (inr k) = absurd (none a (k .0) h)
+  one-table Later one a b (inr h) (inl k) = absurd (none b (h .0) k)
   one-table Later one a b (inr h) (inr k) = one a b (h .1) (k .1)
 
 pub one-of-rings : (t : List ℕ) (limit : ℕ) (Later : List (List ℕ) → Answers) → ((rings : List (List ℕ)) → OneAnswer (Later rings)) → OneAnswer (OfRings t limit Later)

@@ -1,20 +1,15 @@
--- The verdict names the first fault, in the outline's order.
-use mathlib.Core.Path.{_≡_, refl, sym, _∙_, ap, subst}
-use mathlib.Core.Logic.{inl, inr}
-use mathlib.Core.Bool.{Bool, true, false}
-use mathlib.Core.List.{List}
-use Prim.Native.Nat.{ℕ, zero, suc, _+_, _-_, _*_, _/_, _%_, _≤_, _<_}
+-- The first fault, over any notion of a fault at a place and of an unanswered bond: two passes that compute the number of each word name it,
+-- and there is one.
+use mathlib.Core.Path.{_≡_, refl, sym, _∙_, ap, ap₂, subst, subst₂}
+use mathlib.Core.Logic.{_⊎_, inl, inr}
+use Prim.Native.Nat.{ℕ, zero, suc, _+_, _*_, _/_, _%_, _≤_, _<_}
 use native.Mathlib.Omega.{arith}
-use native.Mathlib.Decide.{decLe, ℕ-discrete}
-use lib.ListN.{length, getD}
+use native.Mathlib.Decide.{decLe, decLt, ℕ-discrete}
 use Rattle.network.specs.declared.Answer.{Answer}
-use Rattle.network.specs.Maxima.{atomsMost, places, free}
-use Rattle.network.specs.Network.{word, Holds, Counted}
-use Rattle.network.specs.Verdict.{placeFault, bondFault, firstFault, orElse, answer, accepted, verdict, faults, stands}
-use Rattle.network.specs.FirstFault.{AtPlace, Unanswered, NamesFirst, Judged}
-use Rattle.network.proofs.PlaceFaults.{fault-free, fault-7, fault-8, fault-9, fault-9-first, fault-10, fault-none, fault-none-first, bond-free, bond-answered, bond-unanswered}
-use Rattle.network.proofs.Verdicts.{clean-at, kept, clean, not-atoms-low, not-atoms-high, verdict-1, verdict-4, verdict-faults}
-use Rattle.network.proofs.Networks.{right, found, finds, network-of, accepted-of, free-stays}
+use Rattle.network.specs.Maxima.{places}
+use Rattle.network.specs.Verdict.{firstFault, orElse, answer, accepted}
+use Rattle.network.specs.FirstFault.{Earlier, FirstPlaceFault, FirstBondFault, FirstFault}
+use Rattle.network.proofs.Verdicts.{clean-at, kept, clean}
 
 -- the answer of a pass that finds something
 record First (fault : ℕ → ℕ) (k i : ℕ) (a : Answer) : Type 0 where
@@ -51,203 +46,115 @@ scan-first fault (suc k) i z = go (fault i) refl (scan-first fault k (i + 1)) z
       none = λ j l m. absurd (omega arith);
     }
 
-at-least-7 : (n : ℕ) (t : List ℕ) (x p c : ℕ) → AtPlace n t x p c → 7 ≤ c
-at-least-7 n t x p c (inl a) = omega (arith, a .0)
-at-least-7 n t x p c (inr (inl a)) = omega (arith, a .0)
-at-least-7 n t x p c (inr (inr (inl a))) = omega (arith, a .0)
-at-least-7 n t x p c (inr (inr (inr a))) = omega (arith, a .0)
+-- the number c tells which faults a place has: 0 where it has none, else the smallest
+pub record NumberOf (At : ℕ → Type 0) (c : ℕ) : Type 0 where
+  pub none : c ≡ 0 → (d : ℕ) → At d → ⊥
+  pub there : (c ≡ 0 → ⊥) → At c
+  pub smallest : (d : ℕ) → At d → c ≤ d
 
--- a number for a fault at a place, the smallest there
-record Named (n : ℕ) (t : List ℕ) (x p c : ℕ) : Type 0 where
-  there : AtPlace n t x p c
-  smallest : (d : ℕ) → AtPlace n t x p d → c ≤ d
+-- the first of two places
+pub same-place : (p q : ℕ) → (p < q → ⊥) → (q < p → ⊥) → p ≡ q
+same-place p q h k = elim (decLt p q) [ yes l ↦ absurd (h l) | no l ↦ elim (decLt q p) [ yes m ↦ absurd (k m) | no m ↦ omega arith ] ]
 
--- a place before which its row has no fault
-module _ (n : ℕ) (t : List ℕ) (x p : ℕ) (inside : p < places) (earlier : (r : ℕ) → r < p → placeFault n t (x * places + r) ≡ 0) where
-  row-of : (x * places + p) / places ≡ x
-  row-of = omega arith
+pub same-answer : (a b : Answer) → a .code ≡ b .code → a .row ≡ b .row → a .place ≡ b .place → a ≡ b
+same-answer a b e f g = ap₂ (λ (c x : ℕ). answer c x (a .place)) e f ∙ ap (λ (p : ℕ). answer (b .code) (b .row) p) g
 
-  place-of : (x * places + p) % places ≡ p
-  place-of = omega arith
+same-row : (x p y q : ℕ) → p < places → q < places → (Earlier x p y q → ⊥) → (Earlier y q x p → ⊥) → (x ≡ y) × (p ≡ q)
+same-row x p y q l m h k = let e : x * places + p ≡ y * places + q = same-place (x * places + p) (y * places + q) h k in (omega (arith, e), omega (arith, e))
 
-  word-before : 0 < p → getD t (x * places + p - 1) 0 ≡ word t x (p - 1)
-  word-before l = ap (λ (k : ℕ). getD t k 0) (let d : x * places + p - 1 ≡ x * places + (p - 1) = omega arith in d)
+module _ (n : ℕ) (AtPlace : ℕ → ℕ → ℕ → Type 0) (Unanswered : ℕ → ℕ → Type 0) where
+  -- there is no fault
+  pub record Faultless : Type 0 where
+    pub no-place : (x p c : ℕ) → x < n → p < places → AtPlace x p c → ⊥
+    pub no-bond : (x p : ℕ) → x < n → p < places → Unanswered x p → ⊥
 
-  free-before : (q : ℕ) → q < p → word t x q ≡ free → word t x (p - 1) ≡ free
-  free-before q l h = free-stays n t x q (p - 1) (omega arith) (omega arith) (λ r k. earlier r (omega arith)) h
+  pub faultless-none : Faultless → (a : Answer) → FirstFault n AtPlace Unanswered a → ⊥
+  faultless-none F a (inl P) = F .no-place (a .row) (a .place) (a .code) (P .row) (P .place) (P .there)
+  faultless-none F a (inr B) = F .no-bond (a .row) (a .place) (B .row) (B .place) (B .there)
 
-  -- what a place with number c is, from which smaller numbers are ruled out
-  not-7 : word t x p < n → (c : ℕ) → AtPlace n t x p c → 8 ≤ c
-  not-7 l c (inl a) = absurd (omega (arith, a .1 .1))
-  not-7 l c (inr (inl a)) = omega (arith, a .0)
-  not-7 l c (inr (inr (inl a))) = omega (arith, a .0)
-  not-7 l c (inr (inr (inr a))) = omega (arith, a .0)
+  -- two answers that name the first fault are one
+  one-place : (a b : Answer) → FirstPlaceFault n AtPlace a → FirstPlaceFault n AtPlace b → a ≡ b
+  one-place a b h k =
+      let at = same-row (a .row) (a .place) (b .row) (b .place) (h .place) (k .place) (λ l. k .first (a .row) (a .place) (a .code) (h .place) l (h .there)) (λ l. h .first (b .row) (b .place) (b .code) (k .place) l (k .there)) in
+      let up : a .code ≤ b .code = h .smallest (b .code) (subst₂ (λ x p. AtPlace x p (b .code)) (sym (at .0)) (sym (at .1)) (k .there)) in
+      let down : b .code ≤ a .code = k .smallest (a .code) (subst₂ (λ x p. AtPlace x p (a .code)) (at .0) (at .1) (h .there)) in
+      same-answer a b (omega (arith, up, down)) (at .0) (at .1)
 
-  not-8 : word t x p < n → (0 < p → word t x (p - 1) ≡ free → ⊥) → (c : ℕ) → AtPlace n t x p c → 9 ≤ c
-  not-8 l j c (inl a) = absurd (omega (arith, a .1 .1))
-  not-8 l j c (inr (inl a)) = absurd (j (omega (arith, a .1 .1 .1)) (free-before (a .1 .1 .0) (a .1 .1 .1) (a .1 .1 .2)))
-  not-8 l j c (inr (inr (inl a))) = omega (arith, a .0)
-  not-8 l j c (inr (inr (inr a))) = omega (arith, a .0)
+  one-bond : (a b : Answer) → FirstBondFault n AtPlace Unanswered a → FirstBondFault n AtPlace Unanswered b → a ≡ b
+  one-bond a b h k =
+      let at = same-row (a .row) (a .place) (b .row) (b .place) (h .place) (k .place) (λ l. k .first (a .row) (a .place) (h .place) l (h .there)) (λ l. h .first (b .row) (b .place) (k .place) l (k .there)) in
+      same-answer a b (h .eleven ∙ sym (k .eleven)) (at .0) (at .1)
 
-  not-9 : word t x p < n → (0 < p → word t x (p - 1) ≡ free → ⊥) → (word t x p ≡ x → ⊥) → (c : ℕ) → AtPlace n t x p c → 10 ≤ c
-  not-9 l j o c (inl a) = absurd (omega (arith, a .1 .1))
-  not-9 l j o c (inr (inl a)) = absurd (j (omega (arith, a .1 .1 .1)) (free-before (a .1 .1 .0) (a .1 .1 .1) (a .1 .1 .2)))
-  not-9 l j o c (inr (inr (inl a))) = absurd (o (a .1 .1))
-  not-9 l j o c (inr (inr (inr a))) = omega (arith, a .0)
+  pub one-first : (a b : Answer) → FirstFault n AtPlace Unanswered a → FirstFault n AtPlace Unanswered b → a ≡ b
+  one-first a b (inl h) (inl k) = one-place a b h k
+  one-first a b (inl h) (inr k) = absurd (k .clean (a .row) (a .place) (a .code) (h .row) (h .place) (h .there))
+  one-first a b (inr h) (inl k) = absurd (h .clean (b .row) (b .place) (b .code) (k .row) (k .place) (k .there))
+  one-first a b (inr h) (inr k) = one-bond a b h k
 
-  named : (c : ℕ) → c ≡ placeFault n t (x * places + p) → AtPlace n t x p c → ((d : ℕ) → AtPlace n t x p d → c ≤ d) → Named n t x p (placeFault n t (x * places + p))
-  named c e a s = subst (λ (k : ℕ). Named n t x p k) e (record { there = a; smallest = s })
+  -- numbers of the words that tell their faults: at a place after places of the row without a fault, and of bonds where no place has one
+  module _ (place bond : ℕ → ℕ)
+      (at-place : (x p : ℕ) → x < n → p < places → ((r : ℕ) → r < p → place (x * places + r) ≡ 0) → NumberOf (AtPlace x p) (place (x * places + p)))
+      (at-bond : ((j : ℕ) → j < places * n → place j ≡ 0) → (x p : ℕ) → x < n → p < places → NumberOf (λ d. (d ≡ 11) × Unanswered x p) (bond (x * places + p)))
+      (k : ℕ) (whole : k ≡ places * n) (later : Answer) where
+    abbrev passes : Answer
+    passes = firstFault place k 0 (firstFault bond k 0 later)
 
-  own : word t x p ≡ x → word t x p ≡ (x * places + p) / places
-  own e = e ∙ sym row-of
+    clean-before : (i : ℕ) → i ≤ k → ((j : ℕ) → j < i → place j ≡ 0) → (x p c : ℕ) → p < places → x * places + p < i → AtPlace x p c → ⊥
+    clean-before i l none x p c m e = at-place x p (omega arith) m (λ r q. none (x * places + r) (omega arith)) .none (none (x * places + p) e) c
 
-  not-own : (word t x p ≡ x → ⊥) → word t x p ≡ (x * places + p) / places → ⊥
-  not-own o e = o (e ∙ row-of)
+    places-decide : First place k 0 (firstFault place k 0 accepted) → firstFault place k 0 later ≡ firstFault place k 0 accepted → FirstFault n AtPlace Unanswered (firstFault place k 0 later)
+    places-decide f same =
+        let i : f .at ≡ f .at / places * places + f .at % places = omega arith in
+        let g = subst (λ (j : ℕ). NumberOf (AtPlace (f .at / places) (f .at % places)) (place j)) (sym i)
+        (at-place (f .at / places) (f .at % places) (omega (arith, f .high)) (omega arith) (λ r l. f .none (f .at / places * places + r) (omega arith) (omega arith))) in
+        subst (λ (a : Answer). FirstFault n AtPlace Unanswered a) (sym (same ∙ f .is))
+        (inl (record {
+          row = omega (arith, f .high);
+          place = omega arith;
+          there = g .there (f .some);
+          smallest = g .smallest;
+          first = λ x p c l b. clean-before (f .at) (omega (arith, f .high)) (λ j m. f .none j (omega arith) m) x p c l (omega arith);
+        }))
 
-  -- the number that is given at a place stands there, and none smaller does
-  place-named : (placeFault n t (x * places + p) ≡ 0 → ⊥) → Named n t x p (placeFault n t (x * places + p))
-  place-named z = go (ℕ-discrete (word t x p) free) (decLe n (word t x p)) (ℕ-discrete p 0) (ℕ-discrete (word t x (p - 1)) free) (ℕ-discrete (word t x p) x) (decLe (word t x p) (word t x (p - 1)))
-    where
-      go : Dec (word t x p ≡ free) → Dec (n ≤ word t x p) → Dec (p ≡ 0) → Dec (word t x (p - 1) ≡ free) → Dec (word t x p ≡ x) → Dec (word t x p ≤ word t x (p - 1)) → Named n t x p (placeFault n t (x * places + p))
-      go (yes h) _ _ _ _ _ = absurd (z (sym (fault-free n t (x * places + p) h)))
-      go (no h) (yes m) _ _ _ _ = named 7 (fault-7 n t (x * places + p) h m) (inl (refl, (h, m))) (at-least-7 n t x p)
-      go (no h) (no m) (yes q) _ (yes o) _ =
-          named 9 (fault-9-first n t (x * places + p) h (omega arith) (place-of ∙ q) (own o)) (inr (inr (inl (refl, (h, o)))))
-          (not-8 (omega arith) (λ l. absurd (omega arith)))
-      go (no h) (no m) (yes q) _ (no o) _ = absurd (z (sym (fault-none-first n t (x * places + p) h (omega arith) (place-of ∙ q) (not-own o))))
-      go (no h) (no m) (no q) (yes b) _ _ =
-          named 8 (fault-8 n t (x * places + p) h (omega arith) (omega (arith, place-of)) (word-before (omega arith) ∙ b))
-          (inr (inl (refl, (h, (p - 1, omega arith, b))))) (not-7 (omega arith))
-      go (no h) (no m) (no q) (no b) (yes o) _ =
-          named 9 (fault-9 n t (x * places + p) h (omega arith) (omega (arith, place-of)) (λ e. b (sym (word-before (omega arith)) ∙ e)) (own o)) (inr (inr (inl (refl, (h, o)))))
-          (not-8 (omega arith) (λ _. b))
-      go (no h) (no m) (no q) (no b) (no o) (yes u) =
-          named 10 (fault-10 n t (x * places + p) h (omega arith) (omega (arith, place-of)) (λ e. b (sym (word-before (omega arith)) ∙ e)) (not-own o) (omega (arith, word-before (omega arith))))
-          (inr (inr (inr (refl, (h, (p - 1, omega arith, b, u)))))) (not-9 (omega arith) (λ _. b) o)
-      go (no h) (no m) (no q) (no b) (no o) (no u) =
-          absurd (z (sym (fault-none n t (x * places + p) h (omega arith) (omega (arith, place-of)) (λ e. b (sym (word-before (omega arith)) ∙ e)) (not-own o) (omega (arith, word-before (omega arith))))))
+    module _ (none : (j : ℕ) → j < k → place j ≡ 0) where
+      no-place : (x p c : ℕ) → x < n → p < places → AtPlace x p c → ⊥
+      no-place x p c l m = clean-before k (omega arith) none x p c m (omega arith)
 
-  -- where no number is given there is no fault
-  place-clean : placeFault n t (x * places + p) ≡ 0 → (c : ℕ) → AtPlace n t x p c → ⊥
-  place-clean z c a = go a
-    where
-      go : AtPlace n t x p c → ⊥
-      go (inl a) = omega (arith, a .1 .1, right n t (x * places + p) (a .1 .0) z .atom)
-      go (inr (inl a)) =
-          right n t (x * places + p) (a .1 .0) z .joins (omega (arith, place-of, a .1 .1 .1))
-          (word-before (omega (arith, a .1 .1 .1)) ∙ free-before (a .1 .1 .0) (a .1 .1 .1) (a .1 .1 .2))
-      go (inr (inr (inl a))) = right n t (x * places + p) (a .1 .0) z .not-own (own (a .1 .1))
-      go (inr (inr (inr a))) =
-          let q = a .1 .1 in
-          let d : q .0 ≡ p - 1 = omega (arith, q .1) in
-          omega (
-            arith,
-            right n t (x * places + p) (a .1 .0) z .rises (omega (arith, place-of, q .1)),
-            word-before (omega (arith, q .1)),
-            q .3,
-            ap (λ (k : ℕ). word t x k) d,
-          )
+      number : (x p : ℕ) → x < n → p < places → NumberOf (λ d. (d ≡ 11) × Unanswered x p) (bond (x * places + p))
+      number = at-bond (λ j l. none j (omega arith))
 
--- the same where all places up to a word are clean
-module _ (n : ℕ) (t : List ℕ) (i : ℕ) (none : (j : ℕ) → j < i → placeFault n t j ≡ 0) where
-  clean-before : (x p c : ℕ) → p < places → x * places + p < i → AtPlace n t x p c → ⊥
-  clean-before x p c l e = place-clean n t x p l (λ r k. none (x * places + r) (omega arith)) (none (x * places + p) e) c
-
--- 11
-module _ (n : ℕ) (t : List ℕ) (x p : ℕ) (inside : p < places) (in-table : (h : Holds t x p) → (q : ℕ) → q < places → word t x p * places + q < length t) (real : x ≡ free → ⊥) where
-  bond-named : (bondFault t (x * places + p) ≡ 0 → ⊥) → (bondFault t (x * places + p) ≡ 11) × Unanswered n t x p
-  bond-named z = go (ℕ-discrete (word t x p) free) (stands t ((x * places + p) / places) (word t x p) places 0) refl
-    where
-      go : Dec (word t x p ≡ free) → (b : Bool) → b ≡ stands t ((x * places + p) / places) (word t x p) places 0 → (bondFault t (x * places + p) ≡ 11) × Unanswered n t x p
-      go (yes h) b e = absurd (z (sym (bond-free t (x * places + p) h)))
-      go (no h) true e = absurd (z (sym (bond-answered t (x * places + p) h true e refl)))
-      go (no h) false e = (
-        sym (bond-unanswered t (x * places + p) h false e refl),
-        (
-          h,
-          λ b. let y : _≡_ {A = Bool} false true = e ∙ finds t ((x * places + p) / places) (word t x p) places 0 (b .place) (omega arith) (omega (arith, b .in-row)) (b .stands ∙ (let d : x ≡ (x * places + p) / places = omega arith in d)) in
-              let w : _≡_ {A = ℕ} 0 1 = cc in omega arith,
-        ),
-      )
-
-  bond-clean : bondFault t (x * places + p) ≡ 0 → Unanswered n t x p → ⊥
-  bond-clean z u = go (stands t ((x * places + p) / places) (word t x p) places 0) refl
-    where
-      go : (b : Bool) → b ≡ stands t ((x * places + p) / places) (word t x p) places 0 → ⊥
-      go false e = omega (arith, z, bond-unanswered t (x * places + p) (u .0) false e refl)
-      go true e =
-          let r = found t ((x * places + p) / places) (word t x p) places 0 (sym e) in
-          u .1 (record {
-            place = r .0;
-            in-row = omega (arith, r .1);
-            in-table = in-table (u .0) (r .0) (omega (arith, r .1));
-            stands = r .2 ∙ (let d : (x * places + p) / places ≡ x = omega arith in d);
-            atom = real;
-          })
-
-abbrev code : Answer → ℕ
-code a = a .code
-
-module _ (n : ℕ) (t : List ℕ) (C : Counted n) (whole : length t ≡ places * n) where
-  names-first : (faults n t accepted .code ≡ 0 → ⊥) → NamesFirst n t (faults n t accepted)
-  unfolding faults
-  names-first z = go (ℕ-discrete (firstFault (placeFault n t) (length t) 0 accepted .code) 0)
-    where
-      go : Dec (firstFault (placeFault n t) (length t) 0 accepted .code ≡ 0) → NamesFirst n t (firstFault (placeFault n t) (length t) 0 (firstFault (bondFault t) (length t) 0 accepted))
-      go (no e) =
-          let f = scan-first (placeFault n t) (length t) 0 e in
+      bonds-decide : First bond k 0 (firstFault bond k 0 accepted) → firstFault bond k 0 later ≡ firstFault bond k 0 accepted → FirstFault n AtPlace Unanswered (firstFault bond k 0 later)
+      bonds-decide f same =
           let i : f .at ≡ f .at / places * places + f .at % places = omega arith in
-          let g = place-named n t (f .at / places) (f .at % places) (omega arith) (λ r l. f .none (f .at / places * places + r) (omega arith) (omega arith)) (λ y. f .some (ap (placeFault n t) i ∙ y)) in
-          subst (λ (a : Answer). NamesFirst n t a) (sym (kept (placeFault n t) (length t) 0 _ e ∙ f .is))
-          (inl (record {
+          let g = subst (λ (j : ℕ). NumberOf (λ d. (d ≡ 11) × Unanswered (f .at / places) (f .at % places)) (bond j)) (sym i)
+          (number (f .at / places) (f .at % places) (omega (arith, f .high)) (omega arith)) in
+          subst (λ (a : Answer). FirstFault n AtPlace Unanswered a) (sym (same ∙ f .is))
+          (inr (record {
             row = omega (arith, f .high);
             place = omega arith;
-            there = subst (λ (k : ℕ). AtPlace n t (f .at / places) (f .at % places) (placeFault n t k)) (sym i) (g .there);
-            smallest = subst (λ (k : ℕ). (d : ℕ) → AtPlace n t (f .at / places) (f .at % places) d → placeFault n t k ≤ d) (sym i) (g .smallest);
-            first = λ x p c l b. clean-before n t (f .at) (λ j m. f .none j (omega arith) m) x p c l (omega arith);
+            eleven = g .there (f .some) .0;
+            there = g .there (f .some) .1;
+            clean = no-place;
+            first = λ x p l b u. number x p (omega (arith, f .high)) l .none (f .none (x * places + p) (omega arith) (omega arith)) 11 (refl, u);
           }))
-      go (yes e) = bonds (scan-first (bondFault t) (length t) 0 (λ y. z (ap code (clean (placeFault n t) (length t) 0 _ e) ∙ y)))
-        where
-          at-place : (j : ℕ) → j < length t → placeFault n t j ≡ 0
-          at-place j l = clean-at (placeFault n t) (length t) 0 e j (omega arith) (omega arith)
 
-          reach : (x p : ℕ) → x < n → p < places → Holds t x p → (q : ℕ) → q < places → word t x p * places + q < length t
-          reach x p l m h q k = omega (arith, right n t (x * places + p) h (at-place (x * places + p) (omega arith)) .atom)
-
-          bonds : First (bondFault t) (length t) 0 (firstFault (bondFault t) (length t) 0 accepted) → NamesFirst n t (firstFault (placeFault n t) (length t) 0 (firstFault (bondFault t) (length t) 0 accepted))
-          bonds f =
-              let i : f .at ≡ f .at / places * places + f .at % places = omega arith in
-              let l : f .at / places < n = omega (arith, f .high) in
-              let g = bond-named n t (f .at / places) (f .at % places) (omega arith) (reach (f .at / places) (f .at % places) l (omega arith)) (omega (arith, C .most)) (λ y. f .some (ap (bondFault t) i ∙ y)) in
-              subst (λ (a : Answer). NamesFirst n t a) (sym (clean (placeFault n t) (length t) 0 _ e ∙ f .is))
-              (inr (record {
-                row = l;
-                place = omega arith;
-                eleven = ap (bondFault t) i ∙ g .0;
-                there = g .1;
-                clean = λ x p c lx lp. clean-before n t (length t) (λ j m. at-place j m) x p c lp (omega arith);
-                first = λ x p lp b u. bond-clean n t x p lp (reach x p (omega arith) lp) (omega (arith, C .most)) (f .none (x * places + p) (omega arith) (omega arith)) u;
-              }))
-
--- all that a verdict can be
-pub verdict-judges : (n : ℕ) (t : List ℕ) → Judged n t (verdict n t)
-verdict-judges n t = go (decLe 1 n) (decLe n atomsMost) (ℕ-discrete (length t) (places * n))
-  where
-    sized : Counted n → length t ≡ places * n → Dec (verdict n t .code ≡ 0) → Judged n t (verdict n t)
-    sized C w (yes z) = inr (inr (inr (network-of n t z, accepted-of n t (network-of n t z))))
-    sized C w (no z) =
-        inr (inr (inl (
-          C,
-          w,
-          subst (λ (a : Answer). NamesFirst n t a) (sym (verdict-faults n t accepted C w))
-              (names-first n t C w (λ y. z (ap code (verdict-faults n t accepted C w) ∙ y))),
-        )))
-
-    counted : Counted n → Dec (length t ≡ places * n) → Judged n t (verdict n t)
-    counted C (yes w) = sized C w (ℕ-discrete (verdict n t .code) 0)
-    counted C (no w) = inr (inl (C, w, verdict-4 n t accepted C w))
-
-    go : Dec (1 ≤ n) → Dec (n ≤ atomsMost) → Dec (length t ≡ places * n) → Judged n t (verdict n t)
-    go (yes l) (yes m) d = counted (record { some = l; most = m }) d
-    go (yes l) (no m) d = inl (λ C. m (C .most), verdict-1 n t accepted (not-atoms-high n (omega arith)))
-    go (no l) _ d = inl (λ C. l (C .some), verdict-1 n t accepted (not-atoms-low n (omega arith)))
+    -- the answer names the first fault, or there is none and what comes later decides
+    pub first-told : FirstFault n AtPlace Unanswered passes ⊎ (Faultless × (passes ≡ later))
+    first-told = go (ℕ-discrete (firstFault place k 0 accepted .code) 0) (ℕ-discrete (firstFault bond k 0 accepted .code) 0)
+      where
+        go : Dec (firstFault place k 0 accepted .code ≡ 0) → Dec (firstFault bond k 0 accepted .code ≡ 0) → FirstFault n AtPlace Unanswered passes ⊎ (Faultless × (passes ≡ later))
+        go (no e) _ =
+            inl (subst (λ (a : Answer). FirstFault n AtPlace Unanswered a) (kept place k 0 later e ∙ sym (kept place k 0 (firstFault bond k 0 later) e))
+            (places-decide (scan-first place k 0 e) (kept place k 0 later e)))
+        go (yes e) (no z) =
+            inl (subst (λ (a : Answer). FirstFault n AtPlace Unanswered a) (sym (clean place k 0 (firstFault bond k 0 later) e))
+            (bonds-decide (λ j l. clean-at place k 0 e j (omega arith) (omega arith)) (scan-first bond k 0 z) (kept bond k 0 later z)))
+        go (yes e) (yes z) =
+            let none : (j : ℕ) → j < k → place j ≡ 0 = λ j l. clean-at place k 0 e j (omega arith) (omega arith) in
+            inr (
+              record {
+                no-place = no-place none;
+                no-bond = λ x p l m u. number none x p l m .none (clean-at bond k 0 z (x * places + p) (omega arith) (omega arith)) 11 (refl, u);
+              },
+              clean place k 0 (firstFault bond k 0 later) e ∙ clean bond k 0 later z,
+            )

@@ -2,6 +2,7 @@
 pub mod PlaceFaults
 pub mod Scans
 pub mod Verdicts
+pub mod FirstFaults
+pub mod TableFaults
 pub mod Networks
 pub mod Bonds
-pub mod FirstFaults

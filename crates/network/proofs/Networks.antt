@@ -1,65 +1,100 @@
 -- The verdict accepts the networks, and nothing else.
-use mathlib.Core.Path.{_≡_, refl, sym, _∙_, ap}
-use mathlib.Core.Logic.{_↔_}
+use mathlib.Core.Path.{_≡_, refl, sym, _∙_, ap, subst}
+use mathlib.Core.Logic.{_↔_, _⊎_, inl, inr}
 use mathlib.Core.Bool.{Bool, true, false}
 use mathlib.Core.List.{List}
-use Prim.Native.Nat.{ℕ, zero, suc, _+_, _-_, _*_, _/_, _%_, _≤_, _<_}
+use Prim.Native.Nat.{ℕ, zero, suc, _+_, _*_, _≤_, _<_}
 use native.Mathlib.Omega.{arith}
 use native.Mathlib.Decide.{decLe, ℕ-discrete}
-use lib.ListN.{length, getD}
-use borrow.Author.Tests.{eq-eqb, ne-eqb}
+use lib.ListN.{length}
 use Rattle.network.specs.declared.Answer.{Answer}
-use Rattle.network.specs.Maxima.{atomsMost, places, free}
-use Rattle.network.specs.Network.{word, Holds, Counted, IsNetwork}
-use Rattle.network.specs.Verdict.{placeFault, bondFault, firstFault, orElse, accepted, verdict, faults, stands}
-use Rattle.network.proofs.PlaceFaults.{fault-free, fault-8, fault-9, fault-9-first, fault-10, fault-none, fault-none-first, bond-free, bond-answered, bond-unanswered}
-use Rattle.network.proofs.Verdicts.{clean-at, below, not-atoms-low, not-atoms-high, verdict-1, verdict-4, verdict-faults, says-place, says-bond}
+use Rattle.network.specs.Maxima.{atomsMost, places}
+use Rattle.network.specs.Network.{word, Holds, Bonded, Counted, IsNetwork}
+use Rattle.network.specs.Verdict.{accepted, verdict, faults, stands}
+use Rattle.network.specs.FirstFault.{AtPlace, Unanswered, NamesFirst, Judged}
+use Rattle.network.proofs.Verdicts.{not-atoms-low, not-atoms-high, verdict-1, verdict-4, verdict-faults}
+use Rattle.network.proofs.FirstFaults.{Faultless, faultless-none}
+use Rattle.network.proofs.TableFaults.{found, finds, faults-told}
 
--- what no fault at word i says, and what says so
-pub record Right (n : ℕ) (t : List ℕ) (i : ℕ) : Type 0 where
-  pub atom : getD t i 0 < n
-  pub not-own : getD t i 0 ≡ i / places → ⊥
-  pub joins : (i % places ≡ 0 → ⊥) → getD t (i - 1) 0 ≡ free → ⊥
-  pub rises : (i % places ≡ 0 → ⊥) → getD t (i - 1) 0 < getD t i 0
+abbrev Clean : ℕ → List ℕ → Type 0
+Clean n t = Faultless n (AtPlace n t) (Unanswered n t)
 
-module _ (n : ℕ) (t : List ℕ) (i : ℕ) (h : getD t i 0 ≡ free → ⊥) where
-  pub right : placeFault n t i ≡ 0 → Right n t i
-  right z =
-      let atom : getD t i 0 < n = below n t i z h in
-      let joins : (i % places ≡ 0 → ⊥) → getD t (i - 1) 0 ≡ free → ⊥ = λ r b. omega (arith, fault-8 n t i h atom r b) in
-      let not-own : getD t i 0 ≡ i / places → ⊥ = λ e. elim (ℕ-discrete (i % places) 0) [ yes r ↦ omega (arith, fault-9-first n t i h atom r e) | no r ↦ omega (arith, fault-9 n t i h atom r (joins r) e) ] in
-      record { atom = atom; not-own = not-own; joins = joins; rises = λ r. elim (decLe (getD t i 0) (getD t (i - 1) 0)) [ yes m ↦ absurd (omega (arith, fault-10 n t i h atom r (joins r) not-own m)) | no m ↦ omega arith ] }
+-- a table of n rows without a fault is a network
+module _ (n : ℕ) (t : List ℕ) (C : Counted n) (whole : length t ≡ places * n) (F : Clean n t) where
+  step : (x p : ℕ) → x < n → suc p < places → Holds t x (suc p) → Holds t x p × (word t x p < word t x (suc p))
+  step x p l m h =
+      let held : Holds t x p = λ e. F .no-place x (suc p) 8 l m (inr (inl (refl, (h, (p, omega arith, e))))) in
+      (held, elim (decLe (word t x (suc p)) (word t x p)) [ yes k ↦ absurd (F .no-place x (suc p) 10 l m (inr (inr (inr (refl, (h, (p, refl, held, k))))))) | no k ↦ omega arith ])
 
-  faultless : Right n t i → placeFault n t i ≡ 0
-  faultless r =
-      elim (ℕ-discrete (i % places) 0) [
-        | yes z ↦ sym (fault-none-first n t i h (r .atom) z (r .not-own))
-        | no z ↦ sym (fault-none n t i h (r .atom) z (r .joins z) (r .not-own) (r .rises z))
+  chain : (x p q : ℕ) → x < n → p < q → q < places → Holds t x q → Holds t x p × (word t x p < word t x q)
+  chain x p zero l s m h = absurd (omega arith)
+  chain x p (suc q) l s m h =
+      let one-down = step x q l m h in
+      elim (ℕ-discrete p q) [
+        | yes e ↦ rw e one-down
+        | no e ↦ (let rest = chain x p q l (omega arith) (omega arith) (one-down .0) in (rest .0, omega (arith, rest .1, one-down .1)))
       ]
 
--- a search through a row that finds, and what it finds
-pub found : (t : List ℕ) (x y k p : ℕ) → stands t x y k p ≡ true → (q : ℕ) × (q < p + k) × (word t y q ≡ x)
-unfolding stands
-found t x y zero p s = let z : _≡_ {A = Bool} false true = s in absurd (let e : _≡_ {A = ℕ} 0 1 = cc in omega arith)
-found t x y (suc k) p s =
-    elim (ℕ-discrete (word t y p) x) [
-      | yes e ↦ (p, omega arith, e)
-      | no e ↦ (let r = found t x y k (p + 1) (simp (ne-eqb _ _ e) at s) in (r .0, omega (arith, r .1), r .2))
-    ]
+  atom : (x p : ℕ) → x < n → p < places → Holds t x p → word t x p < n
+  atom x p l m h = elim (decLe n (word t x p)) [ yes k ↦ absurd (F .no-place x p 7 l m (inl (refl, (h, k)))) | no k ↦ omega arith ]
 
-pub finds : (t : List ℕ) (x y k p q : ℕ) → p ≤ q → q < p + k → word t y q ≡ x → stands t x y k p ≡ true
-unfolding stands
-finds t x y zero p q l m e = absurd (omega arith)
-finds t x y (suc k) p q l m e =
-    elim (ℕ-discrete (word t y p) x) [
-      | yes h ↦ simp (eq-eqb _ _ h)
-      | no h ↦ rw (ne-eqb _ _ h) (finds t x y k (p + 1) q (elim (ℕ-discrete p q) [ yes d ↦ absurd (h (rw d e)) | no d ↦ omega arith ]) (omega arith) e)
-    ]
+  reply : (x p : ℕ) → x < n → p < places → Holds t x p → Bonded t (word t x p) x
+  reply x p l m h = go (stands t x (word t x p) places 0) refl
+    where
+      go : (b : Bool) → stands t x (word t x p) places 0 ≡ b → Bonded t (word t x p) x
+      go true e =
+          let r = found t x (word t x p) places 0 e in
+          record { place = r .0; in-row = omega (arith, r .1); in-table = omega (arith, r .1, whole, atom x p l m h); stands = r .2; atom = λ f. omega (arith, C .most) }
+      go false e =
+          absurd (F .no-bond x p l m (
+            h,
+            λ b. let y : _≡_ {A = Bool} false true = sym e ∙ finds t x (word t x p) places 0 (b .place) (omega arith) (omega (arith, b .in-row)) (b .stands) in
+                let w : _≡_ {A = ℕ} 0 1 = cc in omega arith,
+          ))
+
+  pub network-clean : IsNetwork n t
+  network-clean = record {
+    counted = C;
+    whole = whole;
+    below = atom;
+    other = λ x p l m h e. F .no-place x p 9 l m (inr (inr (inl (refl, (h, e)))));
+    first = λ x p q l s m h. chain x p q l s m h .0;
+    ascends = λ x p q l s m h. chain x p q l s m h .1;
+    answered = reply;
+  }
+
+-- a network has no fault
+module _ (n : ℕ) (t : List ℕ) (N : IsNetwork n t) where
+  pub clean-network : Clean n t
+  clean-network = record { no-place = at; no-bond = λ x p l m u. u .1 (N .answered x p l m (u .0)) }
+    where
+      at : (x p c : ℕ) → x < n → p < places → AtPlace n t x p c → ⊥
+      at x p c l m (inl (_, (h, k))) = omega (arith, k, N .below x p l m h)
+      at x p c l m (inr (inl (_, (h, (q, s, e))))) = N .first x q p l s m h e
+      at x p c l m (inr (inr (inl (_, (h, e))))) = N .other x p l m h e
+      at x p c l m (inr (inr (inr (_, (h, (q, e, k, s)))))) = omega (arith, s, N .ascends x q p l (omega arith) m h)
+
+  pub faultless-of : (later : Answer) → faults n t later ≡ later
+  faultless-of later =
+      elim (faults-told n t (N .counted) (N .whole) later)
+      [ inl F ↦ absurd (faultless-none n (AtPlace n t) (Unanswered n t) clean-network _ F) | inr h ↦ h .1 ]
+
+  pub accepted-of : verdict n t ≡ accepted
+  accepted-of = verdict-faults n t accepted (N .counted) (N .whole) ∙ faultless-of accepted
 
 abbrev code : Answer → ℕ
 code a = a .code
 
--- what acceptance says of every word
+at-least-7 : (n : ℕ) (t : List ℕ) (a : Answer) → NamesFirst n t a → 7 ≤ a .code
+at-least-7 n t a (inl P) = at (P .there)
+  where
+    at : AtPlace n t (a .row) (a .place) (a .code) → 7 ≤ a .code
+    at (inl h) = omega (arith, h .0)
+    at (inr (inl h)) = omega (arith, h .0)
+    at (inr (inr (inl h))) = omega (arith, h .0)
+    at (inr (inr (inr h))) = omega (arith, h .0)
+at-least-7 n t a (inr B) = omega (arith, B .eleven)
+
 module _ (n : ℕ) (t : List ℕ) (z : verdict n t .code ≡ 0) where
   counted : Counted n
   counted = go (decLe 1 n) (decLe n atomsMost)
@@ -72,112 +107,33 @@ module _ (n : ℕ) (t : List ℕ) (z : verdict n t .code ≡ 0) where
   whole : length t ≡ places * n
   whole = elim (ℕ-discrete (length t) (places * n)) [ yes m ↦ m | no m ↦ absurd (omega (arith, z, ap code (verdict-4 n t accepted counted m))) ]
 
-  faultless-code : faults n t accepted .code ≡ 0
-  faultless-code = sym (ap code (verdict-faults n t accepted counted whole)) ∙ z
-
-  no-places : firstFault (placeFault n t) (length t) 0 accepted .code ≡ 0
-  no-places =
-      elim (ℕ-discrete (firstFault (placeFault n t) (length t) 0 accepted .code) 0)
-      [ yes e ↦ e | no e ↦ absurd (e (ap code (says-place n t _ refl e) ∙ faultless-code)) ]
-
-  no-bonds : firstFault (bondFault t) (length t) 0 accepted .code ≡ 0
-  no-bonds = ap code (says-bond n t _ refl _ no-places refl) ∙ faultless-code
-
-  at-place : (x p : ℕ) → x < n → p < places → Holds t x p → Right n t (x * places + p)
-  at-place x p l m h = right n t (x * places + p) h (clean-at (placeFault n t) (length t) 0 no-places (x * places + p) (omega arith) (omega (arith, whole)))
-
-  step : (x p : ℕ) → x < n → suc p < places → Holds t x (suc p) → Holds t x p × (word t x p < word t x (suc p))
-  step x p l m h =
-      let r = at-place x (suc p) l m h in
-      let e : x * places + suc p - 1 ≡ x * places + p = omega arith in
-      let later : (x * places + suc p) % places ≡ 0 → ⊥ = omega arith in
-      (rw e at (r .joins later), rw e at (r .rises later))
-
-  chain : (x p q : ℕ) → x < n → p < q → q < places → Holds t x q → Holds t x p × (word t x p < word t x q)
-  chain x p zero l s m h = absurd (omega arith)
-  chain x p (suc q) l s m h =
-      let one-down = step x q l m h in
-      elim (ℕ-discrete p q) [
-        | yes e ↦ rw e one-down
-        | no e ↦ (let rest = chain x p q l (omega arith) (omega arith) (one-down .0) in (rest .0, omega (arith, rest .1, one-down .1)))
-      ]
-
-  reply : (i : ℕ) → (getD t i 0 ≡ free → ⊥) → bondFault t i ≡ 0 → (b : Bool) → b ≡ stands t (i / places) (getD t i 0) places 0 → stands t (i / places) (getD t i 0) places 0 ≡ true
-  reply i h f true e = sym e
-  reply i h f false e = absurd (omega (arith, bond-unanswered t i h false e refl))
-
   pub network-of : IsNetwork n t
-  network-of = record {
-    counted = counted;
-    whole = whole;
-    below = λ x p l m h. at-place x p l m h .atom;
-    other = λ x p l m h e. at-place x p l m h .not-own (let d : x ≡ (x * places + p) / places = omega arith in e ∙ d);
-    first = λ x p q l s m h. chain x p q l s m h .0;
-    ascends = λ x p q l s m h. chain x p q l s m h .1;
-    answered = λ x p l m h.
-        let i : ℕ = x * places + p in
-        let r = found t (i / places) (getD t i 0) places 0 (reply i h (clean-at (bondFault t) (length t) 0 no-bonds i (omega arith) (omega (arith, whole))) _ refl) in
-        let d : (x * places + p) / places ≡ x = omega arith in
-        record {
-          place = r .0;
-          in-row = omega (arith, r .1);
-          in-table = omega (arith, r .1, whole, at-place x p l m h .atom);
-          stands = r .2 ∙ d;
-          atom = λ e. omega (arith, counted .most);
-        };
-  }
-
-clean-of : (fault : ℕ → ℕ) (k i : ℕ) (later : Answer) → ((j : ℕ) → i ≤ j → j < i + k → fault j ≡ 0) → firstFault fault k i later ≡ later
-unfolding firstFault orElse
-clean-of fault zero i later f = refl
-clean-of fault (suc k) i later f = rw (f i (omega arith) (omega arith)) (clean-of fault k (i + 1) later (λ j l m. f j (omega arith) (omega arith)))
-
-module _ (n : ℕ) (t : List ℕ) (N : IsNetwork n t) where
-  no-place-fault : (x p : ℕ) → x < n → p < places → placeFault n t (x * places + p) ≡ 0
-  no-place-fault x p l m =
-      elim (ℕ-discrete (word t x p) free) [
-        | yes e ↦ sym (fault-free n t (x * places + p) e)
-        | no h ↦ faultless n t (x * places + p) h (record {
-          atom = N .below x p l m h;
-          not-own = λ e. N .other x p l m h (let d : (x * places + p) / places ≡ x = omega arith in e ∙ d);
-          joins = λ r. (let d : x * places + p - 1 ≡ x * places + (p - 1) = omega arith in rw d (N .first x (p - 1) p l (omega arith) m h));
-          rises = λ r. (let d : x * places + p - 1 ≡ x * places + (p - 1) = omega arith in rw d (N .ascends x (p - 1) p l (omega arith) m h));
-        })
+  network-of =
+      elim (faults-told n t counted whole accepted) [
+        | inl F ↦ absurd (omega (arith, z, ap code (verdict-faults n t accepted counted whole), at-least-7 n t _ F))
+        | inr h ↦ network-clean n t counted whole (h .0)
       ]
-
-  no-bond-fault : (x p : ℕ) → x < n → p < places → bondFault t (x * places + p) ≡ 0
-  no-bond-fault x p l m =
-      elim (ℕ-discrete (word t x p) free) [
-        | yes e ↦ sym (bond-free t (x * places + p) e)
-        | no h ↦ (let r = N .answered x p l m h in
-            let d : x ≡ (x * places + p) / places = omega arith in
-            sym (bond-answered t (x * places + p) h _ refl (finds t ((x * places + p) / places) (word t x p) places 0 (r .place) (omega arith) (omega (arith, r .in-row)) (r .stands ∙ d))))
-      ]
-
-  pub faultless-of : (later : Answer) → faults n t later ≡ later
-  unfolding faults
-  faultless-of later =
-      clean-of (placeFault n t) (length t) 0 _ (λ j l m. (let e : j ≡ j / places * places + j % places = omega arith in rw e (no-place-fault (j / places) (j % places) (omega (arith, N .whole)) (omega arith))))
-      ∙ clean-of (bondFault t) (length t) 0 _ (λ j l m. (let e : j ≡ j / places * places + j % places = omega arith in rw e (no-bond-fault (j / places) (j % places) (omega (arith, N .whole)) (omega arith))))
-
-  pub accepted-of : verdict n t ≡ accepted
-  accepted-of = verdict-faults n t accepted (N .counted) (N .whole) ∙ faultless-of accepted
 
 -- the verdict is 0 exactly on networks, and then the answer is `accepted`
 pub network-exactly : (n : ℕ) (t : List ℕ) → (verdict n t .code ≡ 0) ↔ IsNetwork n t
 network-exactly n t = (network-of n t, λ N. ap code (accepted-of n t N))
 
--- "after a free place": where the places before in the row have no fault, one of them is free just where the last of them is
-module _ (n : ℕ) (t : List ℕ) (x : ℕ) where
-  pub free-stays : (p q : ℕ) → p ≤ q → q < places → ((r : ℕ) → r ≤ q → placeFault n t (x * places + r) ≡ 0) → word t x p ≡ free → word t x q ≡ free
-  free-stays p zero l m f h = let e : p ≡ 0 = omega arith in rw e at h
-  free-stays p (suc q) l m f h =
-      elim (ℕ-discrete p (suc q)) [
-        | yes e ↦ rw e at h
-        | no e ↦ elim (ℕ-discrete (word t x (suc q)) free) [
-          | yes z ↦ z
-          | no z ↦ (let before = free-stays p q (omega arith) (omega arith) (λ r k. f r (omega arith)) h in
-              let d : x * places + suc q - 1 ≡ x * places + q = omega arith in
-              absurd (right n t (x * places + suc q) z (f (suc q) (omega arith)) .joins (omega arith) (rw d before)))
-        ]
-      ]
+-- the table of a call: its first fault is named, or it is a network and what comes later decides
+module _ (n : ℕ) (t : List ℕ) (C : Counted n) (whole : length t ≡ places * n) (later : Answer) where
+  pub table-told : NamesFirst n t (faults n t later) ⊎ (IsNetwork n t × (faults n t later ≡ later))
+  table-told = elim (faults-told n t C whole later) [ inl F ↦ inl F | inr h ↦ inr (network-clean n t C whole (h .0), h .1) ]
+
+-- all that a verdict can be
+pub verdict-judges : (n : ℕ) (t : List ℕ) → Judged n t (verdict n t)
+verdict-judges n t = go (decLe 1 n) (decLe n atomsMost) (ℕ-discrete (length t) (places * n))
+  where
+    counted : Counted n → Dec (length t ≡ places * n) → Judged n t (verdict n t)
+    counted C (yes w) =
+        let e = verdict-faults n t accepted C w in
+        elim (table-told n t C w accepted) [ inl F ↦ inr (inr (inl (C, w, subst (λ (a : Answer). NamesFirst n t a) (sym e) F))) | inr h ↦ inr (inr (inr (h .0, e ∙ h .1))) ]
+    counted C (no w) = inr (inl (C, w, verdict-4 n t accepted C w))
+
+    go : Dec (1 ≤ n) → Dec (n ≤ atomsMost) → Dec (length t ≡ places * n) → Judged n t (verdict n t)
+    go (yes l) (yes m) d = counted (record { some = l; most = m }) d
+    go (yes l) (no m) d = inl (λ C. m (C .most), verdict-1 n t accepted (not-atoms-high n (omega arith)))
+    go (no l) _ d = inl (λ C. l (C .some), verdict-1 n t accepted (not-atoms-low n (omega arith)))

@@ -1,4 +1,10 @@
--- What refusals 7 to 11 mean at a place of a table, and which fault is the first (document 01, "Numbered refusals").
+-- What refusals 7 to 11 mean at a place of a table, and which fault is the first (document 01, "Numbered refusals"). The first fault is
+-- told over any notion of a fault at a place, `AtPlace x p c` with its number c, and of an unanswered bond there, `Unanswered x p`.
+--
+--   Earlier x p y q       place p of row x is read before place q of row y: rows ascending, then places
+--   FirstPlaceFault n AtPlace a               the answer a is the first fault at a place: the smallest number there, and no earlier place has one
+--   FirstBondFault n AtPlace Unanswered a     the answer a is the first 11: no place has a fault, and no earlier bond is unanswered
+--   FirstFault n AtPlace Unanswered a         the one or the other: the answer a is the first fault of n rows
 --
 --   Outside n t x p       7: the word at place p of row x is neither free nor below n
 --   AfterFree n t x p     8: it is a neighbour after a free place
@@ -6,10 +12,7 @@
 --   NotAbove n t x p      10: it is a neighbour not above the one before it
 --   Unanswered n t x p    11: it is a bond unanswered in the other row
 --   AtPlace n t x p c     one of 7 to 10 there, with its number c
---   Earlier x p y q       place p of row x is read before place q of row y: rows ascending, then places
---   NamesPlace n t a      the answer a is the first of 7 to 10: the smallest number at its place, and no earlier place has one
---   NamesBond n t a       the answer a is the first 11: no place has one of 7 to 10, and no earlier bond is unanswered
---   NamesFirst n t a      the one or the other: the answer a is the first fault
+--   NamesFirst n t a      the answer a is the first fault of the table t
 --   Judged n t a          all that a verdict can be: 1, 4, the first fault, or accepted, each with when it is given
 use mathlib.Core.Path.{_≡_}
 use mathlib.Core.Logic.{_⊎_}
@@ -20,6 +23,29 @@ use Rattle.network.specs.declared.Answer.{Answer}
 use Rattle.network.specs.Maxima.{places, free}
 use Rattle.network.specs.Network.{word, Holds, Bonded, Counted, IsNetwork}
 use Rattle.network.specs.Verdict.{accepted, refusal}
+
+abbrev pub Earlier : ℕ → ℕ → ℕ → ℕ → Type 0
+Earlier x p y q = x * places + p < y * places + q
+
+module _ (n : ℕ) (AtPlace : ℕ → ℕ → ℕ → Type 0) where
+  pub record FirstPlaceFault (a : Answer) : Type 0 where
+    pub row : a .row < n
+    pub place : a .place < places
+    pub there : AtPlace (a .row) (a .place) (a .code)
+    pub smallest : (c : ℕ) → AtPlace (a .row) (a .place) c → a .code ≤ c
+    pub first : (x p c : ℕ) → p < places → Earlier x p (a .row) (a .place) → AtPlace x p c → ⊥
+
+  module _ (Unanswered : ℕ → ℕ → Type 0) where
+    pub record FirstBondFault (a : Answer) : Type 0 where
+      pub row : a .row < n
+      pub place : a .place < places
+      pub eleven : a .code ≡ 11
+      pub there : Unanswered (a .row) (a .place)
+      pub clean : (x p c : ℕ) → x < n → p < places → AtPlace x p c → ⊥
+      pub first : (x p : ℕ) → p < places → Earlier x p (a .row) (a .place) → Unanswered x p → ⊥
+
+    abbrev pub FirstFault : Answer → Type 0
+    FirstFault a = FirstPlaceFault a ⊎ FirstBondFault a
 
 module _ (n : ℕ) (t : List ℕ) (x p : ℕ) where
   abbrev pub Outside : Type 0
@@ -40,26 +66,8 @@ module _ (n : ℕ) (t : List ℕ) (x p : ℕ) where
   abbrev pub AtPlace : ℕ → Type 0
   AtPlace c = ((c ≡ 7) × Outside) ⊎ ((c ≡ 8) × AfterFree) ⊎ ((c ≡ 9) × Own) ⊎ ((c ≡ 10) × NotAbove)
 
-abbrev pub Earlier : ℕ → ℕ → ℕ → ℕ → Type 0
-Earlier x p y q = x * places + p < y * places + q
-
-pub record NamesPlace (n : ℕ) (t : List ℕ) (a : Answer) : Type 0 where
-  pub row : a .row < n
-  pub place : a .place < places
-  pub there : AtPlace n t (a .row) (a .place) (a .code)
-  pub smallest : (c : ℕ) → AtPlace n t (a .row) (a .place) c → a .code ≤ c
-  pub first : (x p c : ℕ) → p < places → Earlier x p (a .row) (a .place) → AtPlace n t x p c → ⊥
-
-pub record NamesBond (n : ℕ) (t : List ℕ) (a : Answer) : Type 0 where
-  pub row : a .row < n
-  pub place : a .place < places
-  pub eleven : a .code ≡ 11
-  pub there : Unanswered n t (a .row) (a .place)
-  pub clean : (x p c : ℕ) → x < n → p < places → AtPlace n t x p c → ⊥
-  pub first : (x p : ℕ) → p < places → Earlier x p (a .row) (a .place) → Unanswered n t x p → ⊥
-
 abbrev pub NamesFirst : ℕ → List ℕ → Answer → Type 0
-NamesFirst n t a = NamesPlace n t a ⊎ NamesBond n t a
+NamesFirst n t = FirstFault n (AtPlace n t) (Unanswered n t)
 
 abbrev pub Judged : ℕ → List ℕ → Answer → Type 0
 Judged n t a =

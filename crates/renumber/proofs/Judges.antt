@@ -13,8 +13,7 @@ use Rattle.network.specs.Verdict.{accepted, verdict}
 use Rattle.network.specs.FirstFault.{NamesFirst}
 use Rattle.network.specs.FirstFault as faults
 use Rattle.network.proofs.Verdicts.{not-atoms-low, not-atoms-high}
-use Rattle.network.proofs.Networks.{network-of}
-use Rattle.network.proofs.FirstFaults.{verdict-judges}
+use Rattle.network.proofs.Networks.{network-of, verdict-judges}
 use Rattle.renumber.specs.Names.{NamesBad, nameFaults}
 use Rattle.renumber.specs.Outcome.{renumberVerdict, Judged}
 use Rattle.renumber.proofs.NameFaults.{one-to-one-of, accepted-names, names-bad}
