@@ -1,6 +1,5 @@
 -- What comes of writing, at each way through the checks.
 use mathlib.Core.Path.{_≡_, refl, sym, _∙_, ap}
-use mathlib.Core.Bool.{Bool, true, false}
 use mathlib.Core.List.{List, _++_}
 use Prim.Native.Nat.{ℕ, _+_, _-_, _*_, _≤_, _<_}
 use native.Mathlib.Omega.{arith}
@@ -13,9 +12,10 @@ use Rattle.graph.specs.Lists.{gather}
 use Rattle.network.specs.declared.Answer.{Answer}
 use Rattle.network.specs.Maxima.{atomsMost, places}
 use Rattle.network.specs.Network.{IsNetwork}
-use Rattle.network.specs.Verdict.{verdict, faults, check, notAtoms, notLong, accepted, refusal}
-use Rattle.network.proofs.Verdicts.{atoms, long, faults-kept}
-use Rattle.network.proofs.Networks.{network-of, faultless-of, accepted-of}
+use Rattle.network.specs.Verdict.{verdict, check, accepted, refusal}
+use Rattle.network.specs.Chain.{Check, Sizes, Table, Accepted}
+use Rattle.network.proofs.Chains.{check-most, sizes-say, table-says}
+use Rattle.network.proofs.Networks.{network-of, accepted-of, verdict-kept, verdict-passed}
 use Rattle.bnw.specs.File.{Bond, fileOf, headOf, bondsOf, bondBytes, headLength, bondLength}
 use Rattle.bnw.specs.Writing.{writeVerdict, Writes}
 use Rattle.graph.proofs.Lists.{sets-front}
@@ -32,16 +32,16 @@ code a = a .code
 module _ (n : ℕ) (t : List ℕ) (room : ℕ) where
   pub network-judged : IsNetwork n t → writeVerdict n t room ≡ check 28 (ltb room (length (fileOf n (bondsOf t)))) accepted
   unfolding writeVerdict
-  network-judged N = rw (atoms n (N .counted .some) (N .counted .most), long t (places * n) (N .whole)) (faultless-of n t N _)
+  network-judged = verdict-passed n t _
 
   pub refused-judged : (verdict n t .code ≡ 0 → ⊥) → verdict n t ≡ writeVerdict n t room
-  unfolding verdict writeVerdict
-  refused-judged z = go (notAtoms n) (notLong t (places * n)) z
-    where
-      go : (b d : Bool) → (check 1 b (check 4 d (faults n t accepted)) .code ≡ 0 → ⊥) → check 1 b (check 4 d (faults n t accepted)) ≡ check 1 b (check 4 d (faults n t (check 28 (ltb room (length (fileOf n (bondsOf t)))) accepted)))
-      go true d z = refl
-      go false true z = refl
-      go false false z = sym (faults-kept n t _ z)
+  unfolding writeVerdict
+  refused-judged z = sym (verdict-kept n t _ z)
+
+  -- all that an answer can be
+  pub write-says : Sizes n t (λ Later. Later) (Table n t (Check 28 (length (fileOf n (bondsOf t)) ≤ room) Accepted)) (writeVerdict n t room)
+  unfolding writeVerdict
+  write-says = sizes-say n t _ _ λ C w. table-says n t _ _ C w λ _. check-most 28 room (length (fileOf n (bondsOf t))) accepted Accepted (λ _. refl)
 
   -- what is written is a network
   pub writes-network : writeVerdict n t room .code ≡ 0 → IsNetwork n t

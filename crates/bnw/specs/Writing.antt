@@ -11,17 +11,12 @@ use lib.ListN.{length, drop}
 use Rattle.network.specs.declared.Answer.{Answer}
 use Rattle.network.specs.Maxima.{places}
 use Rattle.network.specs.Network.{IsNetwork}
-use Rattle.network.specs.Verdict.{check, notAtoms, notLong, faults, accepted}
+use Rattle.network.specs.Verdict.{check, sizes, faults, accepted}
 use Rattle.bnw.specs.declared.Written.{Written}
 use Rattle.bnw.specs.File.{fileOf, bondsOf}
 
 unfoldable pub writeVerdict : ℕ → List ℕ → ℕ → Answer
-writeVerdict n t room =
-    check 1 (notAtoms n)
-    (check 4 (notLong t (places * n))
-    (faults n t
-    (check 28 (ltb room (length (fileOf n (bondsOf t))))
-    accepted)))
+writeVerdict n t room = sizes n t (λ a. a) (faults n t (check 28 (ltb room (length (fileOf n (bondsOf t)))) accepted))
 
 pub record Writes (n : ℕ) (t before after : List ℕ) (w : Written) : Type 0 where
   pub verdict : w .answer ≡ writeVerdict n t (length before)

@@ -9,8 +9,8 @@ use native.Mathlib.Decide.{ℕ-discrete, decLe}
 use borrow.Author.Tests.{eq-eqb, ne-eqb, le-leb, lt-leb}
 use Rattle.network.specs.declared.Answer.{Answer}
 use Rattle.network.specs.Network.{Counted}
-use Rattle.network.specs.Verdict.{check, refusal, atomsOf, notAtoms}
-use Rattle.network.proofs.Verdicts.{atoms, no-atoms, some-atoms}
+use Rattle.network.specs.Verdict.{refusal, sizes, atomsOf, notAtoms}
+use Rattle.network.proofs.Verdicts.{not-refused, atoms, no-atoms, some-atoms}
 use Rattle.distance.specs.Outcome.{distanceVerdict}
 use Rattle.distance.proofs.Outcomes.{accepted-exactly}
 use Rattle.distance.specs.Outcome as distance
@@ -69,19 +69,19 @@ code a = a .code
 
 module _ (n : ℕ) (t : List ℕ) (limit allowance : ℕ) (d : List ℕ) where
   before-1 : notAtoms n ≡ true → beforeSearch n t limit allowance d ≡ refusal 1
-  unfolding beforeSearch
+  unfolding beforeSearch sizes
   before-1 e = rw e
 
   before-2 : Counted n → notLimit limit ≡ true → beforeSearch n t limit allowance d ≡ refusal 2
-  unfolding beforeSearch
+  unfolding beforeSearch sizes
   before-2 c e = rw (atoms n (c .some) (c .most), e)
 
   before-3 : Counted n → notLimit limit ≡ false → notAllowance allowance ≡ true → beforeSearch n t limit allowance d ≡ refusal 3
-  unfolding beforeSearch
+  unfolding beforeSearch sizes
   before-3 c e f = rw (atoms n (c .some) (c .most), e, f)
 
   before-rest : Counted n → notLimit limit ≡ false → notAllowance allowance ≡ false → beforeSearch n t limit allowance d ≡ distanceVerdict n t d
-  unfolding beforeSearch distanceVerdict
+  unfolding beforeSearch distanceVerdict sizes
   before-rest c e f = rw (atoms n (c .some) (c .most), e, f)
 
   module _ (a : Answer) where
@@ -118,17 +118,13 @@ module _ (n : ℕ) (t : List ℕ) (limit allowance : ℕ) (d : List ℕ) where
 
 -- what passing the checks says
 
-check-passed : (c : ℕ) (bad : Bool) (later : Answer) → (c ≡ 0 → ⊥) → check c bad later .code ≡ 0 → (bad ≡ false) × (later .code ≡ 0)
-check-passed c true later z h = absurd (z h)
-check-passed c false later z h = (refl, h)
-
 module _ (n : ℕ) (t : List ℕ) (limit allowance : ℕ) (d : List ℕ) where
   passed : beforeSearch n t limit allowance d .code ≡ 0 → Passed n t limit allowance d
-  unfolding beforeSearch distanceVerdict
+  unfolding beforeSearch distanceVerdict sizes
   passed z =
-      let one = check-passed 1 (notAtoms n) _ (omega arith) z in
-      let two = check-passed 2 (notLimit limit) _ (omega arith) (one .1) in
-      let three = check-passed 3 (notAllowance allowance) _ (omega arith) (two .1) in
+      let one = not-refused 1 (notAtoms n) _ (omega arith) z in
+      let two = not-refused 2 (notLimit limit) _ (omega arith) (one .1) in
+      let three = not-refused 3 (notAllowance allowance) _ (omega arith) (two .1) in
       let rest : distanceVerdict n t d .code ≡ 0 = rw (one .0) (three .1) in
       let both = accepted-exactly n t d .0 rest in
       record {

@@ -36,9 +36,8 @@ use Rattle.graph.specs.Lists.{count}
 use Rattle.graph.specs.Counts.{having, sumOf}
 use Rattle.graph.specs.Listing.{RingListing}
 use Rattle.network.specs.declared.Answer.{Answer}
-use Rattle.network.specs.Maxima.{places}
 use Rattle.network.specs.Network.{Bonded}
-use Rattle.network.specs.Verdict.{check, notAtoms, notLong, faults, accepted}
+use Rattle.network.specs.Verdict.{check, notLong, sizes, faults, accepted}
 use Rattle.distance.specs.Distances.{DistanceTable}
 use Rattle.ring.specs.Maxima.{ringLeast, ringMost, limitDefault, allowanceMost}
 use Rattle.census.specs.declared.Census.{Census}
@@ -55,12 +54,7 @@ notAllowance allowance = not (leb 1 allowance && leb allowance allowanceMost)
 
 unfoldable pub beforeSearch : ℕ → List ℕ → ℕ → ℕ → List ℕ → Answer
 beforeSearch n t limit allowance d =
-    check 1 (notAtoms n)
-    (check 2 (notLimit limit)
-    (check 3 (notAllowance allowance)
-    (check 4 (notLong t (places * n))
-    (check 5 (notLong d (n * n))
-    (faults n t accepted)))))
+    sizes n t (λ a. check 2 (notLimit limit) (check 3 (notAllowance allowance) a)) (check 5 (notLong d (n * n)) (faults n t accepted))
 
 unfoldable pub encodeBy : {Ring : Type 0} → (Ring → ℕ) → (Ring → List ℕ) → List Ring → List ℕ
 encodeBy size told [] = []

@@ -14,6 +14,7 @@ use Rattle.graph.proofs.Lists.{and-T, every-of}
 use Rattle.network.specs.declared.Answer.{Answer}
 use Rattle.network.specs.Network.{Bonded}
 use Rattle.network.specs.Verdict.{accepted}
+use Rattle.network.specs.Chain.{Check}
 use Rattle.network.proofs.Networks.{network-of}
 use Rattle.examples.specs.Examples.{Example, tableOf, byLength, examples}
 use Rattle.examples.proofs.Examples.{examples-hold}
@@ -26,7 +27,7 @@ use Rattle.census.specs.Census.{limitOf, encode, countsOf}
 use Rattle.census.proofs.Passed.{limit-given}
 use Rattle.census.proofs.Settled.{encode-words}
 use Rattle.search.proofs.Counts.{count-at}
-use Rattle.demands.specs.Refusals.{Check, ListSays}
+use Rattle.demands.specs.Refusals.{ListSays}
 use Rattle.demands.specs.Calls.{ListMet}
 use Rattle.demands.specs.Examples.{ExamplesHold, Enough, ExampleListed, ExamplesListed}
 use Rattle.demands.proofs.SearchRefusals.{reached-says}

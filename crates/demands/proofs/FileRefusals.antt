@@ -11,14 +11,14 @@ use lib.ListN.{length, getD}
 use borrow.Author.Tests.{lt-ltb, le-ltb, eq-eqb, ne-eqb}
 use Rattle.network.specs.declared.Answer.{Answer}
 use Rattle.network.specs.Maxima.{atomsMost, places}
+use Rattle.network.specs.Chain.{Answers, Check, Accepted}
+use Rattle.network.proofs.Chains.{in-range, range-true, range-false}
 use Rattle.bnw.specs.File.{Bond, mark, version, bondsMost, headLength, bondLength}
 use Rattle.bnw.specs.Reading.{versionIn, atomsIn, bondsIn, signed, outside, marked, headFault, bondIn, bondFault, orAt, firstBond, readVerdict}
 use Rattle.bnw.proofs.Valid.{scan-clean, clean-scan}
 use Rattle.bnw.proofs.FirstBonds.{fault-clean, names-first}
 use Rattle.bnw.proofs.BondFaults.{given}
-use Rattle.demands.specs.Refusals.{Answers, Check, Accepted}
 use Rattle.demands.specs.FileRefusals.{Marked, Within, Bonds, ReadSays}
-use Rattle.demands.proofs.Chains.{in-range, range-true, range-false}
 
 -- one check of the head
 module _ (c : ℕ) (some : c ≡ 0 → ⊥) (bad : Bool) (rest : ℕ) (later : Answer) (Right : Type 0) (Later : Answers) where

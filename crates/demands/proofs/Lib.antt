@@ -1,7 +1,5 @@
 -- That the demands are met. Read Demands, and FigureFile and FigureText beside it; the rest serves them.
-pub mod Chains
 pub mod OneAnswer
-pub mod Refusals
 pub mod Searches
 pub mod Rings
 pub mod SearchRefusals

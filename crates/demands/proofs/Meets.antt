@@ -3,25 +3,29 @@ use mathlib.Core.Path.{_≡_, refl, sym, _∙_, ap, subst}
 use mathlib.Core.List.{List}
 use Prim.Native.Nat.{ℕ}
 use native.Mathlib.Omega.{arith}
+use lib.ListN.{length}
 use Rattle.network.specs.declared.Answer.{Answer}
 use Rattle.network.specs.Verdict.{verdict}
-use Rattle.network.proofs.Networks.{network-of}
+use Rattle.network.proofs.Networks.{network-of, verdict-says}
 use Rattle.distance.specs.Outcome as distance
+use Rattle.distance.proofs.Outcomes.{distances-says}
+use Rattle.ring.proofs.FirstPlaces.{candidate-says}
 use Rattle.candidate.specs.declared.Tested.{Tested}
 use Rattle.candidate.specs.CandidateOutcome.{CandidateOutcome}
 use Rattle.census.specs.declared.Census.{Census}
 use Rattle.census.specs.Census.{CountOutcome, ListOutcome}
 use Rattle.census.proofs.Settled.{reached}
 use Rattle.renumber.specs.Outcome as renumber
+use Rattle.renumber.proofs.Outcomes.{renumber-says}
 use Rattle.bnw.specs.declared.Reading.{Reading}
 use Rattle.bnw.specs.declared.Written.{Written}
 use Rattle.bnw.specs.Reading.{atomsIn, bondsIn, Reads}
 use Rattle.bnw.specs.Writing.{Writes}
+use Rattle.bnw.proofs.Writings.{write-says}
 use Rattle.bnw.proofs.HeadFaults.{value-22, value-23, value-else}
 use Rattle.demands.specs.Refusals.{ValidateSays, DistancesSays, CandidateSays, RenumberSays, WriteSays}
 use Rattle.demands.specs.FileRefusals.{ReadSays}
 use Rattle.demands.specs.Calls.{ValidateMet, DistancesMet, CandidateMet, CountMet, ListMet, RenumberMet, WriteMet, ReadMet}
-use Rattle.demands.proofs.Refusals.{validate-says, distances-says, candidate-says, renumber-says, write-says}
 use Rattle.demands.proofs.SearchRefusals.{count-says, list-says, count-leaves, list-leaves}
 use Rattle.demands.proofs.FileRefusals.{read-says}
 use Rattle.demands.proofs.Rings.{accepted-count, accepted-listing}
@@ -29,7 +33,7 @@ use Rattle.demands.proofs.Rings.{accepted-count, accepted-listing}
 module _ (n : ℕ) (t : List ℕ) where
   pub validate-met : (a : Answer) → a ≡ verdict n t → ValidateMet n t a
   validate-met a h = record {
-    gives = subst (ValidateSays n t) (sym h) (validate-says n t);
+    gives = subst (ValidateSays n t) (sym h) (verdict-says n t);
     refused = λ z. tt;
     done = λ z. network-of n t (ap (λ (x : Answer). x .code) (sym h) ∙ z);
   }
@@ -72,7 +76,7 @@ module _ (n : ℕ) (t : List ℕ) where
 
   pub write-met : (file file′ : List ℕ) (w : Written) → Writes n t file file′ w → WriteMet n t file file′ w
   write-met file file′ w h = record {
-    gives = subst (WriteSays n t file) (sym (h .verdict)) (write-says n t file);
+    gives = subst (WriteSays n t file) (sym (h .verdict)) (write-says n t (length file));
     refused = h .refused;
     done = λ z. (h .number z, h .written z);
   }

@@ -1,53 +1,19 @@
--- A chain of checks says one answer.
-use mathlib.Core.Path.{_≡_, sym, _∙_, ap, ap₂, subst, subst₂}
+-- A chain of checks says one answer: the links of the search and of a file.
+use mathlib.Core.Path.{_≡_, sym, _∙_, subst}
 use mathlib.Core.Logic.{_⊎_, inl, inr}
 use mathlib.Core.List.{List}
-use Prim.Native.Nat.{ℕ, _+_, _*_, _≤_, _<_}
-use native.Mathlib.Omega.{arith}
-use native.Mathlib.Decide.{decLt}
+use Prim.Native.Nat.{ℕ, _<_}
 use Rattle.graph.proofs.Listings.{ring-listing-unique}
 use Rattle.network.specs.declared.Answer.{Answer}
-use Rattle.network.specs.Maxima.{places}
-use Rattle.network.specs.Network.{Bonded, IsNetwork}
-use Rattle.network.specs.Verdict.{answer}
-use Rattle.network.specs.FirstFault.{AtPlace, Unanswered, NamesFirst}
-use Rattle.network.proofs.FirstFaults.{same-place, same-answer, faultless-none, one-first}
-use Rattle.network.proofs.Networks.{clean-network}
+use Rattle.network.specs.Network.{Bonded}
+use Rattle.network.specs.Chain.{Answers, OneAnswer}
+use Rattle.network.proofs.FirstFaults.{same-place, same-answer}
+use Rattle.network.proofs.Chains.{one-link}
 use Rattle.census.specs.Census.{limitOf}
 use Rattle.bnw.specs.File.{Bond}
 use Rattle.bnw.specs.FirstBond.{Misplaced, Ninth, NamesBond}
-use Rattle.demands.specs.Refusals.{Answers, OneAnswer, Check, Table, Places, OfRings, Accepted}
+use Rattle.demands.specs.Refusals.{OfRings}
 use Rattle.demands.specs.FileRefusals.{Bonds}
-
-pub one-accepted : OneAnswer Accepted
-one-accepted a b h k = h ∙ sym k
-
-pub one-check : (c : ℕ) (Right : Type 0) (Later : Answers) → OneAnswer Later → OneAnswer (Check c Right Later)
-unfolding Check
-one-check c Right Later one a b (inl h) (inl k) = h .1 ∙ sym (k .1)
-one-check c Right Later one a b (inl h) (inr k) = absurd (h .0 (k .0))
-one-check c Right Later one a b (inr h) (inl k) = absurd (k .0 (h .0))
-one-check c Right Later one a b (inr h) (inr k) = one a b (h .1) (k .1)
-
--- the first bad place
-pub one-places : (c : ℕ) (Bad : ℕ → Type 0) (m : ℕ) (Later : Answers) → OneAnswer Later → OneAnswer (Places c Bad m Later)
-unfolding Places
-one-places c Bad m Later one a b (inl h) (inl k) = h .4 ∙ ap (λ (p : ℕ). answer c 0 p) (same-place (h .0) (k .0) (λ l. k .3 (h .0) l (h .2)) (λ l. h .3 (k .0) l (k .2))) ∙ sym (k .4)
-one-places c Bad m Later one a b (inl h) (inr k) = absurd (k .0 (h .0) (h .1) (h .2))
-one-places c Bad m Later one a b (inr h) (inl k) = absurd (h .0 (k .0) (k .1) (k .2))
-one-places c Bad m Later one a b (inr h) (inr k) = one a b (h .1) (k .1)
-
--- the first fault of a table
-module _ (n : ℕ) (t : List ℕ) where
-  none : (a : Answer) → IsNetwork n t → NamesFirst n t a → ⊥
-  none a N = faultless-none n (AtPlace n t) (Unanswered n t) (clean-network n t N) a
-
-  pub one-table : (Later : Answers) → OneAnswer Later → OneAnswer (Table n t Later)
-  unfolding Table
-  one-table Later one a b (inl h) (inl k) = one-first n (AtPlace n t) (Unanswered n t) a b h k
-  one-table Later one a b (inl h) (inr k) = absurd (none a (k .0) h)
-  one-table Later one a b (inr h) (inl k) = absurd (none b (h .0) k)
-  one-table Later one a b (inr h) (inr k) = one a b (h .1) (k .1)
 
 pub one-of-rings : (t : List ℕ) (limit : ℕ) (Later : List (List ℕ) → Answers) → ((rings : List (List ℕ)) → OneAnswer (Later rings)) → OneAnswer (OfRings t limit Later)
 one-of-rings t limit Later one a b h k =
@@ -73,7 +39,4 @@ module _ (n : ℕ) (bond : ℕ → Bond) (m : ℕ) where
 
   pub one-bonds : (Later : Answers) → OneAnswer Later → OneAnswer (Bonds n bond m Later)
   unfolding Bonds
-  one-bonds Later one a b (inl h) (inl k) = one-fault a b h k
-  one-bonds Later one a b (inl h) (inr k) = absurd (at-fault a h (k .0 (a .place) (h .place)))
-  one-bonds Later one a b (inr h) (inl k) = absurd (at-fault b k (h .0 (b .place) (k .place)))
-  one-bonds Later one a b (inr h) (inr k) = one a b (h .1) (k .1)
+  one-bonds Later = one-link (NamesBond n bond m) ((k : ℕ) → k < m → (Misplaced n bond k → ⊥) × (Ninth bond k → ⊥)) Later one-fault (λ a h none. at-fault a h (none (a .place) (h .place)))

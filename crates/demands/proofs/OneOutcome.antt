@@ -5,30 +5,35 @@ use mathlib.Core.List.{List}
 use Prim.Native.Nat.{ℕ}
 use native.Mathlib.Omega.{arith}
 use native.Mathlib.Decide.{ℕ-discrete}
+use lib.ListN.{length}
 use Rattle.network.specs.declared.Answer.{Answer}
+use Rattle.network.specs.Chain.{Answers, OneAnswer}
+use Rattle.network.proofs.Chains.{one-accepted, one-check, one-places, one-table}
 use Rattle.distance.specs.Outcome as distance
-use Rattle.distance.proofs.Outcomes.{table-unique}
+use Rattle.distance.proofs.Outcomes.{distances-says, table-unique}
 use Rattle.distance.proofs.Outcomes as distance-proofs
+use Rattle.ring.proofs.FirstPlaces.{candidate-says}
 use Rattle.candidate.specs.declared.Tested.{Tested}
 use Rattle.candidate.specs.CandidateOutcome.{CandidateOutcome}
 use Rattle.candidate.proofs.Outcomes as candidate
 use Rattle.census.specs.declared.Census.{Census}
 use Rattle.census.specs.Census.{noCensus}
 use Rattle.renumber.specs.Outcome as renumber
+use Rattle.renumber.proofs.Outcomes.{renumber-says}
 use Rattle.renumber.proofs.OneOutcome.{one-outcome}
 use Rattle.bnw.specs.declared.Reading.{Reading}
 use Rattle.bnw.specs.declared.Written.{Written}
 use Rattle.bnw.specs.Reading.{atomsIn, bondsIn, readValue, Reads}
 use Rattle.bnw.specs.Writing.{Writes}
+use Rattle.bnw.proofs.Writings.{write-says}
 use Rattle.bnw.proofs.HeadFaults.{value-22, value-23, value-else}
 use Rattle.bnw.proofs.RoundTrips.{reads-one, writes-one}
-use Rattle.demands.specs.Refusals.{Answers, OneAnswer, ValidateSays, DistancesSays, CandidateSays, CountSays, ListSays, RenumberSays, WriteSays}
+use Rattle.demands.specs.Refusals.{ValidateSays, DistancesSays, CandidateSays, CountSays, ListSays, RenumberSays, WriteSays}
 use Rattle.demands.specs.FileRefusals.{ReadSays}
 use Rattle.demands.specs.Calls.{Met, AfterSearch, DistancesMet, CandidateMet, RenumberMet, WriteMet, ReadMet}
 use Rattle.demands.specs.OneOutcome.{ValidateFixed, DistancesFixed, CandidateFixed, CountFixed, ListFixed, RenumberFixed, WriteFixed, ReadFixed}
-use Rattle.demands.proofs.Refusals.{distances-says, candidate-says, renumber-says, write-says}
 use Rattle.demands.proofs.FileRefusals.{read-says}
-use Rattle.demands.proofs.OneAnswer.{one-accepted, one-check, one-places, one-table, one-of-rings, one-bonds}
+use Rattle.demands.proofs.OneAnswer.{one-of-rings, one-bonds}
 use Rattle.demands.proofs.OneListing.{one-count, one-listing}
 
 both : {A B : Type 0} (o p : A × B) → (o .0 ≡ p .0) × (o .1 ≡ p .1) → o ≡ p
@@ -91,7 +96,7 @@ write-fixed n t file = record { answer = only; outcome = λ o p M N. both o p (w
     only = one-check _ _ _ (one-check _ _ _ (one-table n t _ (one-check _ _ _ one-accepted)))
 
     contract : (file′ : List ℕ) (w : Written) → WriteMet n t file file′ w → Writes n t file file′ w
-    contract file′ w M = record { verdict = only (w .answer) _ (M .gives) (write-says n t file); refused = M .refused; number = λ z. M .done z .0; written = λ z. M .done z .1 }
+    contract file′ w M = record { verdict = only (w .answer) _ (M .gives) (write-says n t (length file)); refused = M .refused; number = λ z. M .done z .0; written = λ z. M .done z .1 }
 
 -- the value that goes with an answer of the reader
 value-met : (file table table′ : List ℕ) (r : Reading) → ReadMet file table table′ r → r .value ≡ readValue file (r .answer .code)

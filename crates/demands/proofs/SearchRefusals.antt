@@ -12,17 +12,17 @@ use borrow.Author.Tests.{eq-eqb, ne-eqb}
 use Rattle.graph.specs.Counts.{wordsOf}
 use Rattle.network.specs.declared.Answer.{Answer}
 use Rattle.network.specs.Maxima.{places}
-use Rattle.network.specs.Verdict.{accepted, refusal, check}
-use Rattle.network.specs.FirstFault.{NamesFirst, AtPlace}
+use Rattle.network.specs.Verdict.{accepted, refusal, check, sizes}
+use Rattle.network.specs.Chain.{Answers, Check, Table, Accepted}
+use Rattle.network.proofs.Chains.{check-says, in-range, range-true, range-false, check-atoms, check-long, check-most, table-says, first-number}
 use Rattle.ring.specs.Maxima.{ringLeast, ringMost, allowanceMost}
 use Rattle.census.specs.declared.Census.{Census}
 use Rattle.census.specs.Census.{notLimit, notAllowance, beforeSearch, encode, noCensus, afterCount, afterList, settled, CensusOutcome, CountOutcome, ListOutcome}
 use Rattle.census.specs.Prepared.{Passed}
 use Rattle.census.proofs.Passed.{limit-given, reached-exactly}
 use Rattle.census.proofs.Settled.{code, encode-words}
-use Rattle.demands.specs.Refusals.{Answers, Check, Table, OfRings, Accepted, RightLimit, RightAllowance, SearchSays, CountSays, ListSays}
+use Rattle.demands.specs.Refusals.{OfRings, RightLimit, RightAllowance, SearchSays, CountSays, ListSays}
 use Rattle.demands.specs.Calls.{AfterSearch}
-use Rattle.demands.proofs.Chains.{check-says, in-range, range-true, range-false, check-atoms, check-long, check-most, table-says}
 
 module _ (limit : ℕ) where
   right-limit : Dec (RightLimit limit)
@@ -43,7 +43,7 @@ module _ (limit : ℕ) where
 module _ (n : ℕ) (t : List ℕ) (limit allowance : ℕ) (d : List ℕ) where
   -- before the search
   before-says : SearchSays n t limit allowance d Accepted (beforeSearch n t limit allowance d)
-  unfolding beforeSearch
+  unfolding beforeSearch sizes
   before-says =
       check-atoms n _ _ λ C.
       check-says 2 (notLimit limit) _ (RightLimit limit) _ (right-limit limit) (limit-passes limit) (limit-fails limit) λ _.
@@ -51,16 +51,6 @@ module _ (n : ℕ) (t : List ℕ) (limit allowance : ℕ) (d : List ℕ) where
       check-long 4 t (places * n) _ _ λ w. check-long 5 d (n * n) _ _ λ _. table-says n t accepted Accepted C w (λ _. refl)
 
   -- a refusal there has a number below 12, and is said whatever comes later
-  first-low : (a : Answer) → NamesFirst n t a → a .code < 12
-  first-low a (inl P) = at (P .there)
-    where
-      at : AtPlace n t (a .row) (a .place) (a .code) → a .code < 12
-      at (inl h) = omega (arith, h .0)
-      at (inr (inl h)) = omega (arith, h .0)
-      at (inr (inr (inl h))) = omega (arith, h .0)
-      at (inr (inr (inr h))) = omega (arith, h .0)
-  first-low a (inr B) = omega (arith, B .eleven)
-
   early : (Later : Answers) (a : Answer) → SearchSays n t limit allowance d Accepted a → (a .code ≡ 0 → ⊥) → (a .code < 12) × SearchSays n t limit allowance d Later a
   unfolding Check Table
   early Later a S z = go S
@@ -74,7 +64,7 @@ module _ (n : ℕ) (t : List ℕ) (limit allowance : ℕ) (d : List ℕ) where
       go (inr (C, inr (l, inl h))) = (low 3 (omega arith) (h .1), inr (C, inr (l, inl h)))
       go (inr (C, inr (l, inr (m, inl h)))) = (low 4 (omega arith) (h .1), inr (C, inr (l, inr (m, inl h))))
       go (inr (C, inr (l, inr (m, inr (w, inl h))))) = (low 5 (omega arith) (h .1), inr (C, inr (l, inr (m, inr (w, inl h)))))
-      go (inr (C, inr (l, inr (m, inr (w, inr (q, inl h)))))) = (first-low a h, inr (C, inr (l, inr (m, inr (w, inr (q, inl h))))))
+      go (inr (C, inr (l, inr (m, inr (w, inr (q, inl h)))))) = (omega (arith, first-number n t a h .1), inr (C, inr (l, inr (m, inr (w, inr (q, inl h))))))
       go (inr (C, inr (l, inr (m, inr (w, inr (q, inr (N, e))))))) = absurd (z (ap (λ (x : Answer). x .code) e))
 
   -- past the checks

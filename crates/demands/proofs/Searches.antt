@@ -8,9 +8,9 @@ use Rattle.graph.proofs.Lists.{sets-front}
 use Rattle.network.specs.declared.Answer.{Answer}
 use Rattle.network.specs.Maxima.{places}
 use Rattle.network.specs.Network.{Bonded, IsNetwork}
-use Rattle.network.specs.Verdict.{check, notLong, accepted}
+use Rattle.network.specs.Verdict.{check, notLong, sizes, accepted}
 use Rattle.network.proofs.Verdicts.{atoms, long}
-use Rattle.network.proofs.Networks.{faultless-of}
+use Rattle.network.proofs.FaultlessTables.{faultless-of}
 use Rattle.census.specs.declared.Census.{Census}
 use Rattle.census.specs.Census.{limitOf, notLimit, notAllowance, beforeSearch, encode, censusOf, CensusOutcome, ListOutcome}
 use Rattle.census.proofs.Passed.{reached-exactly}
@@ -21,7 +21,7 @@ reached-network n t limit allowance before f after c O z = reached-exactly n t l
 
 -- of a network, only 2, 3 and 5 come before the search
 pub before-network : (n : ℕ) (t : List ℕ) (limit allowance : ℕ) (d : List ℕ) → IsNetwork n t → beforeSearch n t limit allowance d ≡ check 2 (notLimit limit) (check 3 (notAllowance allowance) (check 5 (notLong d (n * n)) accepted))
-unfolding beforeSearch
+unfolding beforeSearch sizes
 before-network n t limit allowance d N = rw (atoms n (N .counted .some) (N .counted .most), long t (places * n) (N .whole), faultless-of n t N accepted)
 
 -- an accepted listing: the rings, the census of them, and their words in the buffer

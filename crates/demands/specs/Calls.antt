@@ -15,6 +15,7 @@ use lib.IntN.{pos}
 use lib.ListN.{length, drop, replicate}
 use Rattle.network.specs.declared.Answer.{Answer}
 use Rattle.network.specs.Network.{IsNetwork}
+use Rattle.network.specs.Chain.{Answers}
 use Rattle.distance.specs.Distances.{DistanceTable}
 use Rattle.candidate.specs.declared.Tested.{Tested}
 use Rattle.ring.specs.Maxima.{ringMost}
@@ -27,7 +28,7 @@ use Rattle.bnw.specs.declared.Reading.{Reading}
 use Rattle.bnw.specs.declared.Written.{Written}
 use Rattle.bnw.specs.File.{fileOf, bondsOf}
 use Rattle.bnw.specs.Reading.{atomsIn, bondsIn, signed, ReadsAs}
-use Rattle.demands.specs.Refusals.{Answers, ValidateSays, DistancesSays, CandidateSays, CountSays, ListSays, RenumberSays, WriteSays}
+use Rattle.demands.specs.Refusals.{ValidateSays, DistancesSays, CandidateSays, CountSays, ListSays, RenumberSays, WriteSays}
 use Rattle.demands.specs.FileRefusals.{ReadSays}
 use Rattle.demands.specs.Rings.{AcceptedCount, AcceptedListing}
 

@@ -11,10 +11,10 @@ use Prim.Native.Nat.{ℕ, _+_, _*_, _≤_, _<_}
 use lib.IntN.{ℤ, pos, negsuc}
 use lib.ListN.{length, getD}
 use Rattle.network.specs.Maxima.{atomsMost, places}
+use Rattle.network.specs.Chain.{Answers, Check, Accepted}
 use Rattle.bnw.specs.File.{Bond, mark, version, bondsMost, headLength, bondLength}
 use Rattle.bnw.specs.FirstBond.{Misplaced, Ninth, NamesBond}
 use Rattle.bnw.specs.Reading.{versionIn, atomsIn, bondsIn, signed, bondIn}
-use Rattle.demands.specs.Refusals.{Answers, Check, Accepted}
 
 abbrev pub Marked : List ℕ → Type 0
 Marked file = (getD file 0 0 ≡ getD mark 0 0) × (getD file 1 0 ≡ getD mark 1 0) × (getD file 2 0 ≡ getD mark 2 0)

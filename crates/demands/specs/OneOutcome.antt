@@ -7,11 +7,12 @@ use mathlib.Core.Path.{_≡_}
 use mathlib.Core.List.{List}
 use Prim.Native.Nat.{ℕ}
 use Rattle.network.specs.declared.Answer.{Answer}
+use Rattle.network.specs.Chain.{Answers, OneAnswer}
 use Rattle.candidate.specs.declared.Tested.{Tested}
 use Rattle.census.specs.declared.Census.{Census}
 use Rattle.bnw.specs.declared.Reading.{Reading}
 use Rattle.bnw.specs.declared.Written.{Written}
-use Rattle.demands.specs.Refusals.{Answers, OneAnswer, ValidateSays, DistancesSays, CandidateSays, CountSays, ListSays, RenumberSays, WriteSays}
+use Rattle.demands.specs.Refusals.{ValidateSays, DistancesSays, CandidateSays, CountSays, ListSays, RenumberSays, WriteSays}
 use Rattle.demands.specs.FileRefusals.{ReadSays}
 use Rattle.demands.specs.Calls.{ValidateMet, DistancesMet, CandidateMet, CountMet, ListMet, RenumberMet, WriteMet, ReadMet}
 

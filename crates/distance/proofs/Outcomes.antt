@@ -2,7 +2,6 @@
 -- that fits is unique, and so is the outcome.
 use mathlib.Core.Path.{_≡_, refl, sym, _∙_, ap}
 use mathlib.Core.Logic.{_↔_}
-use mathlib.Core.Bool.{true}
 use mathlib.Core.List.{List}
 use Prim.Native.Nat.{ℕ, _*_, _/_, _%_, _≤_, _<_}
 use native.Mathlib.Nat.{mul-le-mul, div-add-mod', div-lt-iff-lt-mul, mod-lt}
@@ -12,65 +11,54 @@ use lib.ListN.{length}
 use lib.Seq.{ext-getD}
 use Rattle.graph.proofs.Distances.{tells-unique}
 use Rattle.network.specs.declared.Answer.{Answer}
-use Rattle.network.specs.Maxima.{atomsMost, places}
-use Rattle.network.specs.Network.{Bonded, Counted, IsNetwork}
-use Rattle.network.specs.Verdict.{accepted, refusal, atomsOf, verdict, notAtoms}
-use Rattle.network.proofs.Verdicts.{not-atoms-low, not-atoms-high, atoms, no-atoms, some-atoms, not-long, long, verdict-faults}
-use Rattle.network.proofs.Networks.{network-of, accepted-of}
+use Rattle.network.specs.Maxima.{atomsMost}
+use Rattle.network.specs.Network.{Bonded, IsNetwork}
+use Rattle.network.specs.Verdict.{accepted, refusal, sizes, verdict}
+use Rattle.network.specs.Chain.{Check, Sizes, Table, Accepted}
+use Rattle.network.proofs.Verdicts.{not-long, long, sized}
+use Rattle.network.proofs.Chains.{check-long, check-passed, sizes-say, sizes-passed, table-says, table-passed}
+use Rattle.network.proofs.Networks.{network-of, accepted-of, right-atoms, right-table, wrong-sizes}
 use Rattle.distance.specs.Distances.{noPath, DistanceTable}
 use Rattle.distance.specs.Outcome.{distanceVerdict, Outcome}
 
 pub square : (n : ℕ) → n ≤ atomsMost → n * n ≤ atomsMost * atomsMost
 square n h = mul-le-mul h h
 
--- the verdict at each way through the checks
-module _ (n : ℕ) (t old : List ℕ) where
-  pub verdict-1 : notAtoms n ≡ true → distanceVerdict n t old ≡ refusal 1
-  unfolding distanceVerdict
-  verdict-1 e = rw e
-
-  module _ (c : Counted n) where
-    pub verdict-4 : (length t ≡ places * n → ⊥) → distanceVerdict n t old ≡ refusal 4
-    unfolding distanceVerdict
-    verdict-4 h = rw (atoms n (c .some) (c .most), not-long t (places * n) h)
-
-    module _ (whole : length t ≡ places * n) where
-      pub verdict-5 : (length old ≡ n * n → ⊥) → distanceVerdict n t old ≡ refusal 5
-      unfolding distanceVerdict
-      verdict-5 h = rw (atoms n (c .some) (c .most), long t (places * n) whole, not-long old (n * n) h)
-
-      pub verdict-rest : length old ≡ n * n → distanceVerdict n t old ≡ verdict n t
-      unfolding distanceVerdict
-      verdict-rest h = rw (atoms n (c .some) (c .most), long t (places * n) whole, long old (n * n) h) (sym (verdict-faults n t accepted c whole))
-
 abbrev code : Answer → ℕ
 code a = a .code
 
--- the outcome at each way through the checks; m is what the constructor of networks gives for n
-module _ (n : ℕ) (t old : List ℕ) (a : Answer) (m : ℕ) (e : m ≡ atomsOf n) where
-  refused-with : (c : ℕ) → (c ≡ 0 → ⊥) → a ≡ refusal c → distanceVerdict n t old ≡ refusal c → Outcome n t old old a
-  refused-with c z h v = record { answer = h ∙ sym v; refused = λ _. refl; filled = λ y. absurd (z (ap code (sym h) ∙ y)) }
+-- the verdict, as a chain of checks and by the validator's
+module _ (n : ℕ) (t old : List ℕ) where
+  pub distances-says : Sizes n t (λ Later. Later) (Check 5 (length old ≡ n * n) (Table n t Accepted)) (distanceVerdict n t old)
+  unfolding distanceVerdict
+  distances-says = sizes-say n t _ _ λ C w. check-long 5 old (n * n) _ _ λ _. table-says n t accepted Accepted C w (λ _. refl)
 
-  pub out-1 : m ≡ 0 → a ≡ refusal 1 → Outcome n t old old a
-  out-1 z h = refused-with 1 (omega arith) h (verdict-1 n t old (no-atoms n m e z))
+  verdict-rest : length old ≡ n * n → distanceVerdict n t old ≡ verdict n t
+  unfolding distanceVerdict verdict
+  verdict-rest h = rw (long old (n * n) h) refl
 
-  module _ (z : m ≡ 0 → ⊥) where
-    pub out-4 : a ≡ refusal 4 → (length t ≡ places * n → ⊥) → Outcome n t old old a
-    out-4 h l = refused-with 4 (omega arith) h (verdict-4 n t old (some-atoms n m e z) l)
+-- the outcome at each way through the checks; s is the answer of the sizes
+module _ (n : ℕ) (t old : List ℕ) (a : Answer) where
+  refused-with : a ≡ distanceVerdict n t old → (a .code ≡ 0 → ⊥) → Outcome n t old old a
+  refused-with h z = record { answer = h; refused = λ _. refl; filled = λ y. absurd (z y) }
 
-    module _ (whole : length t ≡ places * n) where
-      pub out-5 : a ≡ refusal 5 → (length old ≡ n * n → ⊥) → Outcome n t old old a
-      out-5 h l = refused-with 5 (omega arith) h (verdict-5 n t old (some-atoms n m e z) whole l)
+  pub out-sizes : a ≡ sizes n t (λ b. b) accepted → (a .code ≡ 0 → ⊥) → Outcome n t old old a
+  unfolding distanceVerdict
+  out-sizes e z = refused-with (wrong-sizes n t a e z _) z
 
-      module _ (room : length old ≡ n * n) (h : a ≡ verdict n t) where
-        says : a ≡ distanceVerdict n t old
-        says = h ∙ sym (verdict-rest n t old (some-atoms n m e z) whole room)
+  pub out-5 : (s : Answer) → s ≡ sizes n t (λ b. b) accepted → s .code ≡ 0 → a ≡ refusal 5 → (length old ≡ n * n → ⊥) → Outcome n t old old a
+  unfolding distanceVerdict
+  out-5 s e z h l = refused-with (h ∙ sym (sized n t (right-atoms n t s e z) (right-table n t s e z) _ ∙ rw (not-long old (n * n) l) refl)) (omega (arith, ap code h))
 
-        pub out-faults : (a .code ≡ 0 → ⊥) → Outcome n t old old a
-        out-faults y = record { answer = says; refused = λ _. refl; filled = λ f. absurd (y f) }
+  module _ (room : length old ≡ n * n) (h : a ≡ verdict n t) where
+    says : a ≡ distanceVerdict n t old
+    says = h ∙ sym (verdict-rest n t old room)
 
-        pub out-filled : (new : List ℕ) → a .code ≡ 0 → DistanceTable n t new → Outcome n t old new a
-        out-filled new y d = record { answer = says; refused = λ f. absurd (f y); filled = λ _. d }
+    pub out-faults : (a .code ≡ 0 → ⊥) → Outcome n t old old a
+    out-faults = refused-with says
+
+    pub out-filled : (new : List ℕ) → a .code ≡ 0 → DistanceTable n t new → Outcome n t old new a
+    out-filled new y d = record { answer = says; refused = λ f. absurd (f y); filled = λ _. d }
 
 pub is-network : (n : ℕ) (t : List ℕ) (a : Answer) → a ≡ verdict n t → a .code ≡ 0 → IsNetwork n t
 is-network n t a h z = network-of n t (ap code (sym h) ∙ z)
@@ -78,23 +66,12 @@ is-network n t a h z = network-of n t (ap code (sym h) ∙ z)
 -- accepted exactly on a network with a buffer of n·n bytes
 module _ (n : ℕ) (t old : List ℕ) where
   pub accepted-of-distance : IsNetwork n t → length old ≡ n * n → distanceVerdict n t old ≡ accepted
-  accepted-of-distance N room = verdict-rest n t old (N .counted) (N .whole) room ∙ accepted-of n t N
+  accepted-of-distance N room = verdict-rest n t old room ∙ accepted-of n t N
 
   of-accepted : distanceVerdict n t old .code ≡ 0 → IsNetwork n t × (length old ≡ n * n)
-  of-accepted z = go (decLe 1 n) (decLe n atomsMost)
-    where
-      go : Dec (1 ≤ n) → Dec (n ≤ atomsMost) → IsNetwork n t × (length old ≡ n * n)
-      go (no l) _ = absurd (omega (arith, z, ap code (verdict-1 n t old (not-atoms-low n (omega arith)))))
-      go (yes l) (no k) = absurd (omega (arith, z, ap code (verdict-1 n t old (not-atoms-high n (omega arith)))))
-      go (yes l) (yes k) =
-          let c : Counted n = record { some = l; most = k } in
-          elim (ℕ-discrete (length t) (places * n)) [
-            | no w ↦ absurd (omega (arith, z, ap code (verdict-4 n t old c w)))
-            | yes w ↦ elim (ℕ-discrete (length old) (n * n)) [
-              | no r ↦ absurd (omega (arith, z, ap code (verdict-5 n t old c w r)))
-              | yes r ↦ (network-of n t (ap code (sym (verdict-rest n t old c w r)) ∙ z), r)
-            ]
-          ]
+  of-accepted z =
+      let five = check-passed 5 _ _ _ (omega arith) (sizes-passed n t _ _ (distances-says n t old) z .2) z in
+      (table-passed n t Accepted _ (five .1) z .0, five .0)
 
   pub accepted-exactly : (distanceVerdict n t old .code ≡ 0) ↔ (IsNetwork n t × (length old ≡ n * n))
   accepted-exactly = (of-accepted, λ h. ap code (accepted-of-distance (h .0) (h .1)))

@@ -6,16 +6,11 @@ use mathlib.Core.Path.{_≡_}
 use mathlib.Core.List.{List}
 use Prim.Native.Nat.{ℕ, _*_}
 use Rattle.network.specs.declared.Answer.{Answer}
-use Rattle.network.specs.Maxima.{places}
-use Rattle.network.specs.Verdict.{check, notAtoms, notLong, faults, accepted}
+use Rattle.network.specs.Verdict.{check, notLong, sizes, faults, accepted}
 use Rattle.distance.specs.Distances.{DistanceTable}
 
 unfoldable pub distanceVerdict : ℕ → List ℕ → List ℕ → Answer
-distanceVerdict n t d =
-    check 1 (notAtoms n)
-    (check 4 (notLong t (places * n))
-    (check 5 (notLong d (n * n))
-    (faults n t accepted)))
+distanceVerdict n t d = sizes n t (λ a. a) (check 5 (notLong d (n * n)) (faults n t accepted))
 
 pub record Outcome (n : ℕ) (t before after : List ℕ) (a : Answer) : Type 0 where
   pub answer : a ≡ distanceVerdict n t before

@@ -2,7 +2,6 @@
 mod rows;
 
 use network::Answer;
-use network::Network;
 ghost use mathlib.Core.Path.{_≡_};
 ghost use Rattle.distance.specs.Distances.{noPath};
 ghost use Rattle.distance.specs.Outcome.{Outcome};
@@ -14,12 +13,9 @@ pub const NO_PATH: u8 = 255;
 pub fn distances(n: usize, table: &[u16], dist: &mut [u8]) -> Answer
     ensures { λ r. ⌜ Outcome n (now (table .entry)) (now (dist .entry)) (now (dist .exit)) r ⌝ }
 {
-    let counted = Network::of(n);
-    if counted.atoms == 0 {
-        return Answer::refused(1);
-    }
-    if table.len() != Network::PLACES * n {
-        return Answer::refused(4);
+    let sized = network::sizes(n, table);
+    if sized.code != 0 {
+        return sized;
     }
     if dist.len() != n * n {
         return Answer::refused(5);

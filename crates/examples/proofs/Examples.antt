@@ -12,7 +12,7 @@ use Rattle.graph.proofs.Lists.{and-T, every-of}
 use Rattle.graph.proofs.Listed.{computed}
 use Rattle.graph.proofs.Renamings.{same-listing}
 use Rattle.network.specs.Network.{Bonded, IsNetwork, neighbours}
-use Rattle.network.specs.Verdict.{placeFault, bondFault, firstFault, orElse, stands, verdict, faults}
+use Rattle.network.specs.Verdict.{placeFault, bondFault, firstFault, orElse, stands, sizes, verdict, faults}
 use Rattle.network.proofs.Networks.{network-of, accepted-of}
 use Rattle.network.proofs.Bonds.{bonded-by, finite}
 use Rattle.examples.specs.Examples.{Example, tableOf, byLength, ExampleHolds, AllHold, examples}
@@ -42,5 +42,5 @@ holds-of e h =
     }
 
 pub examples-hold : AllHold
-unfolding placeFault bondFault firstFault orElse stands verdict faults
+unfolding placeFault bondFault firstFault orElse stands sizes verdict faults
 examples-hold e m = holds-of e (every-of passes examples tt e m)

@@ -6,7 +6,7 @@ use lib.ListN.{length}
 use Rattle.graph.specs.Levels.{elem}
 use Rattle.graph.proofs.Lists.{and-T, every-of}
 use Rattle.graph.proofs.Levels.{elem-has}
-use Rattle.network.specs.Verdict.{placeFault, bondFault, firstFault, orElse, stands, verdict, faults}
+use Rattle.network.specs.Verdict.{placeFault, bondFault, firstFault, orElse, stands, sizes, verdict, faults}
 use Rattle.examples.specs.Examples.{tableOf}
 use Rattle.examples.specs.NearMisses.{NearMiss, Missed, AllMissed, nearMisses}
 use Rattle.examples.specs.Repeats.{smallestFirst, secondSmaller}
@@ -36,5 +36,5 @@ missed-of m h =
     }
 
 pub near-misses-ruled-out : AllMissed
-unfolding placeFault bondFault firstFault orElse stands verdict faults
+unfolding placeFault bondFault firstFault orElse stands sizes verdict faults
 near-misses-ruled-out m i = missed-of m (every-of misses nearMisses tt m i)

@@ -13,7 +13,7 @@ use Rattle.graph.proofs.Levels.{elem-of}
 use Rattle.graph.proofs.Readings.{reading-self, reading-shortest}
 use Rattle.graph.proofs.Writings.{writing-unique}
 use Rattle.network.specs.Network.{Bonded, IsNetwork}
-use Rattle.network.specs.Verdict.{placeFault, bondFault, firstFault, orElse, stands, verdict, faults}
+use Rattle.network.specs.Verdict.{placeFault, bondFault, firstFault, orElse, stands, sizes, verdict, faults}
 use Rattle.network.proofs.Networks.{network-of}
 use Rattle.network.proofs.Bonds.{bonded-back}
 use Rattle.examples.specs.Examples.{tableOf}
@@ -51,5 +51,5 @@ twice-of m h =
     }
 
 pub repeats-ruled-out : AllTakenTwice
-unfolding placeFault bondFault firstFault orElse stands verdict faults
+unfolding placeFault bondFault firstFault orElse stands sizes verdict faults
 repeats-ruled-out m i = twice-of m (every-of takesTwice repeats tt m i)

@@ -4,5 +4,7 @@ pub mod Scans
 pub mod Verdicts
 pub mod FirstFaults
 pub mod TableFaults
+pub mod FaultlessTables
+pub mod Chains
 pub mod Networks
 pub mod Bonds

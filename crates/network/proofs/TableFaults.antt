@@ -11,7 +11,7 @@ use borrow.Author.Tests.{eq-eqb, ne-eqb}
 use Rattle.network.specs.declared.Answer.{Answer}
 use Rattle.network.specs.Maxima.{places, free}
 use Rattle.network.specs.Network.{word, Holds, Counted}
-use Rattle.network.specs.Verdict.{placeFault, bondFault, firstFault, faults, stands}
+use Rattle.network.specs.Verdict.{placeFault, bondFault, faults, stands}
 use Rattle.network.specs.FirstFault.{Outside, AfterFree, Own, NotAbove, AtPlace, Unanswered, NamesFirst}
 use Rattle.network.proofs.PlaceFaults.{fault-free, fault-7, fault-8, fault-9, fault-9-first, fault-10, fault-none, fault-none-first, bond-free, bond-answered, bond-unanswered}
 use Rattle.network.proofs.Verdicts.{below}

@@ -2,7 +2,7 @@
 use mathlib.Core.Path.{_≡_, refl, sym, _∙_, ap}
 use mathlib.Core.Bool.{Bool, true, false, cond}
 use mathlib.Core.List.{List}
-use Prim.Native.Nat.{ℕ, zero, suc, _+_, _-_, _*_, _≤_, _<_}
+use Prim.Native.Nat.{ℕ, zero, suc, _+_, _*_, _≤_, _<_}
 use native.Mathlib.Omega.{arith}
 use native.Mathlib.Decide.{decLe, ℕ-discrete}
 use lib.ListN.{length, getD}
@@ -10,7 +10,7 @@ use borrow.Author.Tests.{eq-eqb, ne-eqb, le-leb, lt-leb}
 use Rattle.network.specs.declared.Answer.{Answer}
 use Rattle.network.specs.Maxima.{atomsMost, places, free}
 use Rattle.network.specs.Network.{Counted}
-use Rattle.network.specs.Verdict.{placeFault, bondFault, firstFault, orElse, accepted, refusal, verdict, faults, notAtoms, notLong, atomsOf, WordsBelow}
+use Rattle.network.specs.Verdict.{placeFault, bondFault, firstFault, orElse, accepted, refusal, check, faults, notAtoms, notLong, sizes, atomsOf, WordsBelow}
 use Rattle.network.proofs.PlaceFaults.{fault-7}
 
 -- one word, then the rest
@@ -54,15 +54,43 @@ pub words-below : (n : ℕ) (t : List ℕ) (a : Answer) → a ≡ firstFault (pl
 unfolding WordsBelow
 words-below n t a first z i l h = below n t i (clean-at (placeFault n t) (length t) 0 (ap (λ (x : Answer). x .code) (sym first) ∙ z) i (omega arith) (omega arith)) h
 
--- the faults of a table: those of places decide, and where there is none those of bonds
-module _ (n : ℕ) (t : List ℕ) (a : Answer) (first : a ≡ firstFault (placeFault n t) (length t) 0 accepted) where
-  pub says-place : (a .code ≡ 0 → ⊥) → a ≡ faults n t accepted
-  unfolding faults
-  says-place z = first ∙ sym (kept (placeFault n t) (length t) 0 _ (λ e. z (ap (λ (x : Answer). x .code) first ∙ e)))
+-- two passes, as over places and then over bonds: the first decides where it finds something, and where it does not the second
+module _ (place bond : ℕ → ℕ) (k : ℕ) where
+  abbrev passes : Answer → Answer
+  passes later = firstFault place k 0 (firstFault bond k 0 later)
 
-  pub says-bond : (b : Answer) → a .code ≡ 0 → b ≡ firstFault (bondFault t) (length t) 0 accepted → b ≡ faults n t accepted
+  pub passes-kept : (later : Answer) → (passes accepted .code ≡ 0 → ⊥) → passes later ≡ passes accepted
+  passes-kept later z =
+      elim (ℕ-discrete (firstFault place k 0 accepted .code) 0) [
+        | yes e ↦ clean place k 0 _ e ∙ kept bond k 0 later (λ y. z (ap (λ (x : Answer). x .code) (clean place k 0 _ e) ∙ y)) ∙ sym (clean place k 0 _ e)
+        | no e ↦ kept place k 0 _ e ∙ sym (kept place k 0 _ e)
+      ]
+
+  module _ (a : Answer) (first : a ≡ firstFault place k 0 accepted) where
+    pub says-first : (a .code ≡ 0 → ⊥) → a ≡ passes accepted
+    says-first z = first ∙ sym (kept place k 0 _ (λ e. z (ap (λ (x : Answer). x .code) first ∙ e)))
+
+    pub says-second : (b : Answer) → a .code ≡ 0 → b ≡ firstFault bond k 0 accepted → b ≡ passes accepted
+    says-second b z h = h ∙ sym (clean place k 0 _ (ap (λ (x : Answer). x .code) (sym first) ∙ z))
+
+module _ (n : ℕ) (t : List ℕ) where
+  -- faults decide, whatever comes later
+  pub faults-kept : (later : Answer) → (faults n t accepted .code ≡ 0 → ⊥) → faults n t later ≡ faults n t accepted
   unfolding faults
-  says-bond b z h = h ∙ sym (clean (placeFault n t) (length t) 0 _ (ap (λ (x : Answer). x .code) (sym first) ∙ z))
+  faults-kept = passes-kept (placeFault n t) (bondFault t) (length t)
+
+  pub says-place : (a : Answer) → a ≡ firstFault (placeFault n t) (length t) 0 accepted → (a .code ≡ 0 → ⊥) → a ≡ faults n t accepted
+  unfolding faults
+  says-place = says-first (placeFault n t) (bondFault t) (length t)
+
+  pub says-bond : (a : Answer) → a ≡ firstFault (placeFault n t) (length t) 0 accepted → (b : Answer) → a .code ≡ 0 → b ≡ firstFault (bondFault t) (length t) 0 accepted → b ≡ faults n t accepted
+  unfolding faults
+  says-bond = says-second (placeFault n t) (bondFault t) (length t)
+
+-- a check that does not refuse
+pub not-refused : (c : ℕ) (bad : Bool) (later : Answer) → (c ≡ 0 → ⊥) → check c bad later .code ≡ 0 → (bad ≡ false) × (later .code ≡ 0)
+not-refused c true later z e = absurd (z e)
+not-refused c false later z e = (refl, e)
 
 -- the checks of numbers, for any call
 pub not-atoms-low : (n : ℕ) → n < 1 → notAtoms n ≡ true
@@ -108,36 +136,35 @@ not-long t m h = simp (ne-eqb _ _ h)
 pub long : (t : List ℕ) (m : ℕ) → length t ≡ m → notLong t m ≡ false
 long t m h = simp (eq-eqb _ _ h)
 
--- the verdict at each way through its checks; m is what the constructor of networks gives for n
-module _ (n : ℕ) (t : List ℕ) (a : Answer) where
-  pub verdict-1 : notAtoms n ≡ true → verdict n t ≡ refusal 1
-  unfolding verdict
-  verdict-1 e = rw e
+-- 1 and 4; m is what the constructor of networks gives for n
+module _ (n : ℕ) (t : List ℕ) (a : Answer) (m : ℕ) (e : m ≡ atomsOf n) where
+  pub sizes-1 : m ≡ 0 → a ≡ refusal 1 → a ≡ sizes n t (λ b. b) accepted
+  unfolding sizes
+  sizes-1 z h = h ∙ sym (rw (no-atoms n m e z) refl)
 
-  pub says-1 : (m : ℕ) → m ≡ atomsOf n → m ≡ 0 → a ≡ refusal 1 → a ≡ verdict n t
-  says-1 m e z h = h ∙ sym (verdict-1 (no-atoms n m e z))
+  module _ (z : m ≡ 0 → ⊥) where
+    some : Counted n
+    some = some-atoms n m e z
 
-  pub verdict-4 : Counted n → (length t ≡ places * n → ⊥) → verdict n t ≡ refusal 4
-  unfolding verdict
-  verdict-4 c h = rw (atoms n (c .some) (c .most), not-long t (places * n) h)
+    pub sizes-4 : (length t ≡ places * n → ⊥) → a ≡ refusal 4 → a ≡ sizes n t (λ b. b) accepted
+    unfolding sizes
+    sizes-4 l h = h ∙ sym (rw (atoms n (some .some) (some .most), not-long t (places * n) l) refl)
 
-  pub says-4 : (m : ℕ) → m ≡ atomsOf n → (m ≡ 0 → ⊥) → a ≡ refusal 4 → (length t ≡ places * n → ⊥) → a ≡ verdict n t
-  says-4 m e z f h = f ∙ sym (verdict-4 (some-atoms n m e z) h)
+    pub sizes-right : length t ≡ places * n → a ≡ accepted → a ≡ sizes n t (λ b. b) accepted
+    unfolding sizes
+    sizes-right l h = h ∙ sym (rw (atoms n (some .some) (some .most), long t (places * n) l) refl)
 
-  pub verdict-faults : Counted n → length t ≡ places * n → verdict n t ≡ faults n t accepted
-  unfolding verdict
-  verdict-faults c h = rw (atoms n (c .some) (c .most), long t (places * n) h)
+module _ (n : ℕ) (t : List ℕ) where
+  -- sizes that are refused are refused whatever comes later, and where they are right what comes later decides
+  pub sizes-kept : (later : Answer) → (sizes n t (λ b. b) accepted .code ≡ 0 → ⊥) → sizes n t (λ b. b) later ≡ sizes n t (λ b. b) accepted
+  unfolding sizes
+  sizes-kept later z = go (notAtoms n) (notLong t (places * n)) z
+    where
+      go : (b d : Bool) → (check 1 b (check 4 d accepted) .code ≡ 0 → ⊥) → check 1 b (check 4 d later) ≡ check 1 b (check 4 d accepted)
+      go true d z = refl
+      go false true z = refl
+      go false false z = absurd (z refl)
 
-  pub says-faults : (m : ℕ) → m ≡ atomsOf n → (m ≡ 0 → ⊥) → a ≡ faults n t accepted → length t ≡ places * n → a ≡ verdict n t
-  says-faults m e z f h = f ∙ sym (verdict-faults (some-atoms n m e z) h)
-
--- faults decide, whatever comes later
-pub faults-kept : (n : ℕ) (t : List ℕ) (later : Answer) → (faults n t accepted .code ≡ 0 → ⊥) → faults n t later ≡ faults n t accepted
-unfolding faults
-faults-kept n t later z =
-    elim (ℕ-discrete (firstFault (placeFault n t) (length t) 0 accepted .code) 0) [
-      | yes e ↦ clean (placeFault n t) (length t) 0 _ e
-          ∙ kept (bondFault t) (length t) 0 later (λ y. z (ap (λ (x : Answer). x .code) (clean (placeFault n t) (length t) 0 _ e) ∙ y))
-          ∙ sym (clean (placeFault n t) (length t) 0 _ e)
-      | no e ↦ kept (placeFault n t) (length t) 0 _ e ∙ sym (kept (placeFault n t) (length t) 0 _ e)
-    ]
+  pub sized : Counted n → length t ≡ places * n → (later : Answer) → sizes n t (λ b. b) later ≡ later
+  unfolding sizes
+  sized c h later = rw (atoms n (c .some) (c .most), long t (places * n) h) refl

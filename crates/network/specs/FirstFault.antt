@@ -13,16 +13,13 @@
 --   Unanswered n t x p    11: it is a bond unanswered in the other row
 --   AtPlace n t x p c     one of 7 to 10 there, with its number c
 --   NamesFirst n t a      the answer a is the first fault of the table t
---   Judged n t a          all that a verdict can be: 1, 4, the first fault, or accepted, each with when it is given
 use mathlib.Core.Path.{_≡_}
 use mathlib.Core.Logic.{_⊎_}
 use mathlib.Core.List.{List}
 use Prim.Native.Nat.{ℕ, suc, _+_, _*_, _≤_, _<_}
-use lib.ListN.{length}
 use Rattle.network.specs.declared.Answer.{Answer}
 use Rattle.network.specs.Maxima.{places, free}
-use Rattle.network.specs.Network.{word, Holds, Bonded, Counted, IsNetwork}
-use Rattle.network.specs.Verdict.{accepted, refusal}
+use Rattle.network.specs.Network.{word, Holds, Bonded}
 
 abbrev pub Earlier : ℕ → ℕ → ℕ → ℕ → Type 0
 Earlier x p y q = x * places + p < y * places + q
@@ -68,10 +65,3 @@ module _ (n : ℕ) (t : List ℕ) (x p : ℕ) where
 
 abbrev pub NamesFirst : ℕ → List ℕ → Answer → Type 0
 NamesFirst n t = FirstFault n (AtPlace n t) (Unanswered n t)
-
-abbrev pub Judged : ℕ → List ℕ → Answer → Type 0
-Judged n t a =
-    ((Counted n → ⊥) × (a ≡ refusal 1))
-    ⊎ (Counted n × (length t ≡ places * n → ⊥) × (a ≡ refusal 4))
-    ⊎ (Counted n × (length t ≡ places * n) × NamesFirst n t a)
-    ⊎ (IsNetwork n t × (a ≡ accepted))

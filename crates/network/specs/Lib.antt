@@ -3,3 +3,4 @@ pub mod Maxima
 pub mod Network
 pub mod Verdict
 pub mod FirstFault
+pub mod Chain

@@ -8,6 +8,7 @@
 --   notAtoms n                  n is no number of atoms: 1 to 250
 --   atomsOf n                   n, or 0 where n is no number of atoms
 --   notLong t m                 t has not m words
+--   sizes n t between later     the checks that every call with a table begins with: 1, what is checked between, 4, and what comes later
 --   after i b                   word i has a word before it in its row, and b holds
 --   placeFault n t i            7 to 10: the fault of word i alone, or 0
 --   WordsBelow n t              each neighbour is an atom: below n
@@ -47,6 +48,9 @@ atomsOf n = cond (notAtoms n) 0 n
 abbrev pub notLong : List ℕ → ℕ → Bool
 notLong t m = not (eqb (length t) m)
 
+unfoldable pub sizes : ℕ → List ℕ → (Answer → Answer) → Answer → Answer
+sizes n t between later = check 1 (notAtoms n) (between (check 4 (notLong t (places * n)) later))
+
 abbrev pub after : ℕ → Bool → Bool
 after i b = not (eqb (i % places) 0) && b
 
@@ -81,7 +85,4 @@ unfoldable pub faults : ℕ → List ℕ → Answer → Answer
 faults n t later = firstFault (placeFault n t) (length t) 0 (firstFault (bondFault t) (length t) 0 later)
 
 unfoldable pub verdict : ℕ → List ℕ → Answer
-verdict n t =
-    check 1 (notAtoms n)
-    (check 4 (notLong t (places * n))
-    (faults n t accepted))
+verdict n t = sizes n t (λ a. a) (faults n t accepted)

@@ -5,7 +5,7 @@ mod faults;
 
 ghost use mathlib.Core.Path.{_≡_};
 ghost use Rattle.network.specs.Maxima.{atomsMost, places, free};
-ghost use Rattle.network.specs.Verdict.{accepted, refusal, atomsOf, verdict};
+ghost use Rattle.network.specs.Verdict.{accepted, refusal, atomsOf, sizes, verdict};
 
 // A network of so many atoms.
 pub struct Network {
@@ -77,6 +77,17 @@ impl Answer {
 pub fn validate(n: usize, table: &[u16]) -> Answer
     ensures { λ r. ⌜ r ≡ verdict n (now (table .entry)) ⌝ }
 {
+    let sized = sizes(n, table);
+    if sized.code != 0 {
+        return sized;
+    }
+    faults::faults_in(n, table)
+}
+
+// The number of atoms and the length of a bond table, which every call checks before it reads a word: refusals 1 and 4.
+pub fn sizes(n: usize, table: &[u16]) -> Answer
+    ensures { λ r. ⌜ r ≡ sizes n (now (table .entry)) (λ a. a) accepted ⌝ }
+{
     let network = Network::of(n);
     if network.atoms == 0 {
         return Answer::refused(1);
@@ -84,7 +95,7 @@ pub fn validate(n: usize, table: &[u16]) -> Answer
     if table.len() != Network::PLACES * n {
         return Answer::refused(4);
     }
-    faults::faults_in(n, table)
+    Answer::accepted()
 }
 
 // The constants of the type are the numbers of the specifications.

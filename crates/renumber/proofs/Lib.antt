@@ -6,7 +6,6 @@ pub mod PutRows
 pub mod Naming
 pub mod NewRows
 pub mod Outcomes
-pub mod Judges
 pub mod OneOutcome
 pub mod Home
 pub mod Carried

@@ -1,5 +1,5 @@
--- Names without a fault are one-to-one, and a fault that is given is the first.
-use mathlib.Core.Path.{_≡_, refl, sym, _∙_, ap, subst}
+-- 18 is given at the first bad name, and names without one are one-to-one.
+use mathlib.Core.Path.{_≡_, refl, sym, _∙_}
 use mathlib.Core.Logic.{_⊎_, inl, inr}
 use mathlib.Core.Bool.{Bool, true, false, cond}
 use mathlib.Core.List.{List}
@@ -10,7 +10,9 @@ use lib.ListN.{length}
 use borrow.Author.Tests.{eq-eqb, ne-eqb, le-leb, lt-leb}
 use Rattle.network.specs.declared.Answer.{Answer}
 use Rattle.network.specs.Verdict.{answer, accepted}
-use Rattle.renumber.specs.Names.{name, OneToOne, BadName, NamesBad, seen, badName, nameFaults}
+use Rattle.network.specs.Chain.{Places, Accepted}
+use Rattle.network.proofs.Chains.{one-accepted, one-places, places-right, places-passed}
+use Rattle.renumber.specs.Names.{name, OneToOne, BadName, seen, badName, nameFaults}
 
 no-bool : {A : Type 0} → _≡_ {A = Bool} false true → A
 no-bool z = absurd (let e : _≡_ {A = ℕ} 0 1 = cc in omega arith)
@@ -89,38 +91,28 @@ scan n names (suc k) i = go (badName n names i) refl (nameFaults n names k (i + 
       is = r .is;
     })
 
-abbrev code : Answer → ℕ
-code a = a .code
-
 module _ (n : ℕ) (names : List ℕ) (long : length names ≡ n) where
-  pub one-to-one-of : nameFaults n names (length names) 0 accepted .code ≡ 0 → OneToOne n names
-  one-to-one-of z = go (scan n names (length names) 0)
+  -- 18 at the first place that is bad
+  pub names-say : Places 18 (BadName n names) n Accepted (nameFaults n names (length names) 0 accepted)
+  unfolding Places
+  names-say = go (scan n names (length names) 0)
     where
-      go : {a : Answer} → Found n names (length names) 0 (nameFaults n names (length names) 0 accepted) ⊎ None n names (length names) 0 a → OneToOne n names
-      go (inl r) = absurd (omega (arith, z, ap code (r .is)))
-      go (inr r) = record {
+      go : {a : Answer} → Found n names (length names) 0 a ⊎ None n names (length names) 0 a → Places 18 (BadName n names) n Accepted a
+      go (inl r) = inl (r .at, omega (arith, r .high), r .bad, (λ i l. r .none i (omega arith) l), r .is)
+      go (inr r) = inr ((λ i l. r .none i (omega arith) (omega arith)), r .is)
+
+  pub one-to-one-of : nameFaults n names (length names) 0 accepted .code ≡ 0 → OneToOne n names
+  one-to-one-of z =
+      let none = places-passed 18 (BadName n names) n Accepted _ (omega arith) names-say z .0 in
+      record {
         long = long;
-        below = λ x l. elim (decLe n (name names x)) [ yes m ↦ absurd (r .none x (omega arith) (omega arith) (inl m)) | no m ↦ omega arith ];
-        apart = λ x y l m e. r .none y (omega arith) (omega arith) (inr (x, l, e));
+        below = λ x l. elim (decLe n (name names x)) [ yes m ↦ absurd (none x l (inl m)) | no m ↦ omega arith ];
+        apart = λ x y l m e. none y m (inr (x, l, e));
       }
 
   pub accepted-names : OneToOne n names → nameFaults n names (length names) 0 accepted ≡ accepted
-  accepted-names O = go (scan n names (length names) 0)
+  accepted-names O = one-places 18 (BadName n names) n Accepted one-accepted _ _ names-say (places-right 18 (BadName n names) n Accepted accepted not-bad refl)
     where
       not-bad : (i : ℕ) → i < n → BadName n names i → ⊥
       not-bad i m (inl l) = omega (arith, O .below i m)
       not-bad i m (inr s) = O .apart (s .0) i (s .1) m (s .2)
-
-      go : {a : Answer} → Found n names (length names) 0 a ⊎ None n names (length names) 0 a → a ≡ accepted
-      go (inl r) = absurd (not-bad (r .at) (omega (arith, r .high)) (r .bad))
-      go (inr r) = r .is
-
-  -- names are refused at the first place that is bad
-  pub names-bad : (nameFaults n names (length names) 0 accepted .code ≡ 0 → ⊥) → NamesBad n names (nameFaults n names (length names) 0 accepted)
-  names-bad z = go (scan n names (length names) 0)
-    where
-      go : Found n names (length names) 0 (nameFaults n names (length names) 0 accepted) ⊎ None n names (length names) 0 (nameFaults n names (length names) 0 accepted)
-          → NamesBad n names (nameFaults n names (length names) 0 accepted)
-      go (inl r) = subst (λ (a : Answer). NamesBad n names a) (sym (r .is))
-          (record { eighteen = refl; row = refl; place = omega (arith, r .high); there = r .bad; first = λ i l. r .none i (omega arith) l })
-      go (inr r) = absurd (z (ap code (r .is)))

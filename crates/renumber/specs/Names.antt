@@ -3,7 +3,6 @@
 --   name names x                  the new number of atom x
 --   OneToOne n names              a renumbering of n atoms: n names, each below n, no two equal
 --   BadName n names i             18 at place i: its name is not below n, or was seen earlier
---   NamesBad n names a            the answer a is 18 at row 0 and the first such place
 --   seen names w k j              whether w is among the k names from place j on
 --   badName n names i             the same as BadName, computed
 --   nameFaults n names k i later  18 at the first bad name among the k from place i on, else what comes later
@@ -27,13 +26,6 @@ pub record OneToOne (n : ℕ) (names : List ℕ) : Type 0 where
 
 abbrev pub BadName : ℕ → List ℕ → ℕ → Type 0
 BadName n names i = (n ≤ name names i) ⊎ ((j : ℕ) × (j < i) × (name names j ≡ name names i))
-
-pub record NamesBad (n : ℕ) (names : List ℕ) (a : Answer) : Type 0 where
-  pub eighteen : a .code ≡ 18
-  pub row : a .row ≡ 0
-  pub place : a .place < n
-  pub there : BadName n names (a .place)
-  pub first : (i : ℕ) → i < a .place → BadName n names i → ⊥
 
 unfoldable pub seen : List ℕ → ℕ → ℕ → ℕ → Bool
 seen names w zero j = false

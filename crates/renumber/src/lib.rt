@@ -10,12 +10,9 @@ ghost use Rattle.renumber.specs.Outcome.{Outcome};
 pub fn renumber(n: usize, table: &[u16], names: &[u16], renamed: &mut [u16]) -> Answer
     ensures { λ r. ⌜ Outcome n (now (table .entry)) (now (names .entry)) (now (renamed .entry)) (now (renamed .exit)) r ⌝ }
 {
-    let network = Network::of(n);
-    if network.atoms == 0 {
-        return Answer::refused(1);
-    }
-    if table.len() != Network::PLACES * n {
-        return Answer::refused(4);
+    let sized = network::sizes(n, table);
+    if sized.code != 0 {
+        return sized;
     }
     if names.len() != n {
         return Answer::refused(6);

@@ -2,22 +2,24 @@
 -- atoms in a network, and the distance buffer has n·n bytes.
 use mathlib.Core.Path.{_≡_, refl, sym, _∙_, ap, subst}
 use mathlib.Core.Logic.{_≢_, _↔_}
-use mathlib.Core.Bool.{Bool, true, false, cond}
+use mathlib.Core.Bool.{Bool, false}
 use mathlib.Core.List.{List}
 use Prim.Native.Nat.{ℕ, suc, _+_, _-_, _*_, _%_, _≤_, _<_}
 use native.Mathlib.Nat.{mod-eq-of-lt, mod-lt, mod-self}
 use native.Mathlib.Omega.{arith}
-use native.Mathlib.Decide.{ℕ-discrete, decLe, decLt}
+use native.Mathlib.Decide.{decLe, decLt}
 use lib.Dec.{T, eqb}
 use lib.ListN.{length, getD}
 use borrow.Author.Tests.{lt-ltb, le-ltb, lt-leb, leb-false, ltb-false, eqb-true, eqb-false}
 use Rattle.graph.specs.Graph.{Ring}
 use Rattle.network.specs.declared.Answer.{Answer}
-use Rattle.network.specs.Maxima.{atomsMost, places}
-use Rattle.network.specs.Network.{word, Bonded, Counted, IsNetwork}
-use Rattle.network.specs.Verdict.{answer, accepted, refusal, atomsOf, verdict, faults, notAtoms}
-use Rattle.network.proofs.Verdicts.{atoms, not-atoms-low, not-atoms-high, no-atoms, some-atoms, not-long, long, verdict-faults, faults-kept}
-use Rattle.network.proofs.Networks.{network-of, faultless-of}
+use Rattle.network.specs.Maxima.{places}
+use Rattle.network.specs.Network.{word, Bonded, IsNetwork}
+use Rattle.network.specs.Verdict.{answer, accepted, refusal, sizes, verdict, faults}
+use Rattle.network.specs.Chain.{Check, Sizes, Table}
+use Rattle.network.proofs.Verdicts.{not-refused, not-long, long, sized}
+use Rattle.network.proofs.Chains.{check-long, check-passed, sizes-say, sizes-passed, table-says, table-passed}
+use Rattle.network.proofs.Networks.{network-of, verdict-kept, verdict-passed, right-atoms, right-table, wrong-sizes}
 use Rattle.network.proofs.Bonds.{bonded-from}
 use Rattle.ring.specs.Maxima.{ringLeast, ringMost}
 use Rattle.ring.specs.Firsts.{firstOf}
@@ -72,46 +74,27 @@ module _ (n : ℕ) (t r : List ℕ) (a : Answer) (m : ℕ) (e : m ≡ lengthOf (
           unfolding ringVerdict
           says-ring l h = h ∙ sym (rw size (clean-15 _ ∙ clean-16 _ ∙ place-clean 17 (length r) (apart t r) _ w ew l))
 
--- all checks; m is what the constructor of networks gives for n
+-- all checks; s is the answer of the sizes
 module _ (n : ℕ) (t r d : List ℕ) where
-  verdict-1 : notAtoms n ≡ true → candidateVerdict n t r d ≡ refusal 1
+  verdict-rest : length d ≡ n * n → candidateVerdict n t r d ≡ sizes n t (λ b. b) (faults n t (ringVerdict n t r))
   unfolding candidateVerdict
-  verdict-1 e = rw e
+  verdict-rest h = rw (long d (n * n) h) refl
 
-  module _ (c : Counted n) where
-    verdict-4 : (length t ≡ places * n → ⊥) → candidateVerdict n t r d ≡ refusal 4
+  module _ (a : Answer) where
+    pub says-sizes : a ≡ sizes n t (λ b. b) accepted → (a .code ≡ 0 → ⊥) → a ≡ candidateVerdict n t r d
     unfolding candidateVerdict
-    verdict-4 h = rw (atoms n (c .some) (c .most), not-long t (places * n) h)
+    says-sizes e z = wrong-sizes n t a e z _
 
-    module _ (whole : length t ≡ places * n) where
-      verdict-5 : (length d ≡ n * n → ⊥) → candidateVerdict n t r d ≡ refusal 5
-      unfolding candidateVerdict
-      verdict-5 h = rw (atoms n (c .some) (c .most), long t (places * n) whole, not-long d (n * n) h)
+    pub says-5 : (s : Answer) → s ≡ sizes n t (λ b. b) accepted → s .code ≡ 0 → a ≡ refusal 5 → (length d ≡ n * n → ⊥) → a ≡ candidateVerdict n t r d
+    unfolding candidateVerdict
+    says-5 s e z h l = h ∙ sym (sized n t (right-atoms n t s e z) (right-table n t s e z) _ ∙ rw (not-long d (n * n) l) refl)
 
-      verdict-rest : length d ≡ n * n → candidateVerdict n t r d ≡ faults n t (ringVerdict n t r)
-      unfolding candidateVerdict
-      verdict-rest h = rw (atoms n (c .some) (c .most), long t (places * n) whole, long d (n * n) h)
+    module _ (room : length d ≡ n * n) where
+      pub says-faults : a ≡ verdict n t → (a .code ≡ 0 → ⊥) → a ≡ candidateVerdict n t r d
+      says-faults h z = h ∙ sym (verdict-rest room ∙ verdict-kept n t (ringVerdict n t r) (λ y. z (ap code h ∙ y)))
 
-  module _ (a : Answer) (m : ℕ) (e : m ≡ atomsOf n) where
-    pub says-1 : m ≡ 0 → a ≡ refusal 1 → a ≡ candidateVerdict n t r d
-    says-1 z h = h ∙ sym (verdict-1 (no-atoms n m e z))
-
-    module _ (z : m ≡ 0 → ⊥) where
-      pub says-4 : a ≡ refusal 4 → (length t ≡ places * n → ⊥) → a ≡ candidateVerdict n t r d
-      says-4 h l = h ∙ sym (verdict-4 (some-atoms n m e z) l)
-
-      module _ (whole : length t ≡ places * n) where
-        pub says-5 : a ≡ refusal 5 → (length d ≡ n * n → ⊥) → a ≡ candidateVerdict n t r d
-        says-5 h l = h ∙ sym (verdict-5 (some-atoms n m e z) whole l)
-
-        module _ (room : length d ≡ n * n) where
-          pub says-faults : a ≡ verdict n t → (a .code ≡ 0 → ⊥) → a ≡ candidateVerdict n t r d
-          says-faults h y =
-              let f : a ≡ faults n t accepted = h ∙ verdict-faults n t accepted (some-atoms n m e z) whole in
-              f ∙ sym (verdict-rest (some-atoms n m e z) whole room ∙ faults-kept n t (ringVerdict n t r) (λ g. y (ap code f ∙ g)))
-
-          pub says-rest : (b : Answer) → b ≡ verdict n t → b .code ≡ 0 → a ≡ ringVerdict n t r → a ≡ candidateVerdict n t r d
-          says-rest b h y k = k ∙ sym (verdict-rest (some-atoms n m e z) whole room ∙ faultless-of n t (network-of n t (ap code (sym h) ∙ y)) (ringVerdict n t r))
+      pub says-rest : (b : Answer) → b ≡ verdict n t → b .code ≡ 0 → a ≡ ringVerdict n t r → a ≡ candidateVerdict n t r d
+      says-rest b h y k = k ∙ sym (verdict-rest room ∙ verdict-passed n t (ringVerdict n t r) (network-of n t (ap code (sym h) ∙ y)))
 
 -- no place is bad
 module _ (bad : ℕ → Bool) (k : ℕ) where
@@ -229,10 +212,6 @@ module _ (n : ℕ) (t : List ℕ) (N : IsNetwork n t) (r : List ℕ) where
       ∙ place-clean 16 (length r) (seen r) _ _ refl (all-good (seen r) (length r) (S .once))
       ∙ place-clean 17 (length r) (apart t r) _ _ refl (all-good (apart t r) (length r) (S .joined)))
 
-  check-passed : (c : ℕ) (bad : Bool) (later : Answer) → (c ≡ 0 → ⊥) → cond bad (refusal c) later .code ≡ 0 → (bad ≡ false) × (later .code ≡ 0)
-  check-passed c true later z e = absurd (z e)
-  check-passed c false later z e = (refl, e)
-
   places-passed : (c k : ℕ) (bad : ℕ → Bool) (later : Answer) → (c ≡ 0 → ⊥) → firstPlace c bad k later .code ≡ 0 → ((i : ℕ) → i < k → bad i ≡ false) × (later .code ≡ 0)
   places-passed c k bad later z e =
       elim (decLt (firstOf bad k 0) k) [
@@ -243,7 +222,7 @@ module _ (n : ℕ) (t : List ℕ) (N : IsNetwork n t) (r : List ℕ) where
   sound-of : ringVerdict n t r .code ≡ 0 → Sound
   unfolding ringVerdict
   sound-of z =
-      let a = check-passed 14 _ _ (omega arith) z in
+      let a = not-refused 14 _ _ (omega arith) z in
       let b = places-passed 15 (length r) (outside n r) _ (omega arith) (a .1) in
       let c = places-passed 16 (length r) (seen r) _ (omega arith) (b .1) in
       let d = places-passed 17 (length r) (apart t r) _ (omega arith) (c .1) in
@@ -257,38 +236,20 @@ module _ (n : ℕ) (t : List ℕ) (N : IsNetwork n t) (r : List ℕ) where
   ring-atoms R most i l = leb-false n (getD r i 0) (of-ring R most .inside i l)
 
 module _ (n : ℕ) (t r d : List ℕ) where
+  -- the checks of the candidate come last
+  in-chain : Sizes n t (λ Later. Later) (Check 5 (length d ≡ n * n) (Table n t (λ a. a ≡ ringVerdict n t r))) (candidateVerdict n t r d)
+  unfolding candidateVerdict
+  in-chain = sizes-say n t _ _ λ C w. check-long 5 d (n * n) _ _ λ _. table-says n t (ringVerdict n t r) (λ a. a ≡ ringVerdict n t r) C w (λ _. refl)
+
   accepted-of : candidateVerdict n t r d .code ≡ 0 → RightCandidate n t r d
-  accepted-of z = go (decLe 1 n) (decLe n atomsMost)
-    where
-      go : Dec (1 ≤ n) → Dec (n ≤ atomsMost) → RightCandidate n t r d
-      go (no l) _ = absurd (omega (arith, z, ap code (verdict-1 n t r d (not-atoms-low n (omega arith)))))
-      go (yes l) (no k) = absurd (omega (arith, z, ap code (verdict-1 n t r d (not-atoms-high n (omega arith)))))
-      go (yes l) (yes k) = at (ℕ-discrete (length t) (places * n)) (ℕ-discrete (length d) (n * n))
-        where
-          c : Counted n
-          c = record { some = l; most = k }
-
-          at : Dec (length t ≡ places * n) → Dec (length d ≡ n * n) → RightCandidate n t r d
-          at (no w) _ = absurd (omega (arith, z, ap code (verdict-4 n t r d c w)))
-          at (yes w) (no q) = absurd (omega (arith, z, ap code (verdict-5 n t r d c w q)))
-          at (yes w) (yes q) = record { network = N; room = q; ring = R .0; most = R .1 }
-            where
-              rest : faults n t (ringVerdict n t r) .code ≡ 0
-              rest = ap code (sym (verdict-rest n t r d c w q)) ∙ z
-
-              faultless : faults n t accepted .code ≡ 0
-              faultless = elim (ℕ-discrete (faults n t accepted .code) 0) [ yes y ↦ y | no y ↦ sym (ap code (faults-kept n t (ringVerdict n t r) y)) ∙ rest ]
-
-              N : IsNetwork n t
-              N = network-of n t (ap code (verdict-faults n t accepted c w) ∙ faultless)
-
-              R : Ring (Bonded t) 0 r × (length r ≤ ringMost)
-              R = ring-exactly n t N r .0 (sym (ap code (faultless-of n t N (ringVerdict n t r))) ∙ rest)
+  accepted-of z =
+      let five = check-passed 5 _ _ _ (omega arith) (sizes-passed n t _ _ in-chain z .2) z in
+      let table = table-passed n t _ _ (five .1) z in
+      let R = ring-exactly n t (table .0) r .0 (ap code (sym (table .1)) ∙ z) in
+      record { network = table .0; room = five .0; ring = R .0; most = R .1 }
 
   of-accepted : RightCandidate n t r d → candidateVerdict n t r d .code ≡ 0
-  of-accepted A =
-      ap code (verdict-rest n t r d (A .network .counted) (A .network .whole) (A .room) ∙ faultless-of n t (A .network) (ringVerdict n t r))
-      ∙ ring-exactly n t (A .network) r .1 (A .ring, A .most)
+  of-accepted A = ap code (verdict-rest n t r d (A .room) ∙ verdict-passed n t (ringVerdict n t r) (A .network)) ∙ ring-exactly n t (A .network) r .1 (A .ring, A .most)
 
   pub accepted-exactly : (candidateVerdict n t r d .code ≡ 0) ↔ RightCandidate n t r d
   accepted-exactly = (accepted-of, of-accepted)

@@ -17,7 +17,7 @@ use lib.ListN.{length, getD}
 use Rattle.network.specs.declared.Answer.{Answer}
 use Rattle.network.specs.Maxima.{places}
 use Rattle.network.specs.Network.{word}
-use Rattle.network.specs.Verdict.{answer, accepted, check, notAtoms, notLong, faults}
+use Rattle.network.specs.Verdict.{answer, accepted, check, notLong, sizes, faults}
 use Rattle.ring.specs.Firsts.{firstOf}
 use Rattle.ring.specs.Writes.{notRing}
 
@@ -48,11 +48,7 @@ ringVerdict n t r =
     accepted)))
 
 unfoldable pub candidateVerdict : ℕ → List ℕ → List ℕ → List ℕ → Answer
-candidateVerdict n t r d =
-    check 1 (notAtoms n)
-    (check 4 (notLong t (places * n))
-    (check 5 (notLong d (n * n))
-    (faults n t (ringVerdict n t r))))
+candidateVerdict n t r d = sizes n t (λ a. a) (check 5 (notLong d (n * n)) (faults n t (ringVerdict n t r)))
 
 unfoldable pub AtomsBelow : ℕ → List ℕ → Type 0
 AtomsBelow n r = (i : ℕ) → i < length r → getD r i 0 < n

@@ -15,12 +15,9 @@ ghost use Rattle.ring.specs.CandidateVerdict.{outside, firstWith, seen, 
 pub fn faults_of(n: usize, table: &[u16], ring: &[u16], dist: &[u8]) -> Answer
     ensures { λ r. ⌜ r ≡ candidateVerdict n (now (table .entry)) (now (ring .entry)) (now (dist .entry)) ⌝ }
 {
-    let counted = Network::of(n);
-    if counted.atoms == 0 {
-        return Answer::refused(1);
-    }
-    if table.len() != Network::PLACES * n {
-        return Answer::refused(4);
+    let sized = network::sizes(n, table);
+    if sized.code != 0 {
+        return sized;
     }
     if dist.len() != n * n {
         return Answer::refused(5);
