@@ -98,10 +98,6 @@ every-of p (x ∷ xs) h a m = go (List·Memᴰ·cases-cons m) (every-of p xs (an
     go (inl e) ih = subst (λ z. T (p z)) (sym e) (and-T (p x) (every p xs) h .0)
     go (inr n) ih = ih n
 
-pub every-has : {A : Type 0} (p : A → Bool) (xs : List A) → ((a : A) → a ∈ xs → T (p a)) → T (every p xs)
-every-has p [] h = tt
-every-has p (x ∷ xs) h = T-and (p x) (every p xs) (h x (List·Memᴰ·head refl)) (every-has p xs (λ a m. h a (List·Memᴰ·tail m)))
-
 -- members by their places
 pub place-of : {A : Type 0} (d : A) {a : A} {xs : List A} → a ∈ xs → (i : ℕ) × (i < length xs) × (getD xs i d ≡ a)
 place-of d (List·Memᴰ·head e) = (0, omega arith, sym e)

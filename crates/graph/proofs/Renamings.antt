@@ -56,9 +56,6 @@ module _ {A : Type 0} {Bonded Bonded′ : A → A → Type 0} (same : (x y : A) 
   renamed : Renaming Bonded Bonded′ (λ x. x) (λ x. x)
   renamed = record { there = λ x y. same x y .0; home = λ x y. same x y .1; undone = λ x y b. refl }
 
-  pub same-distance : (x y : A) (d : ℕ) → Distance Bonded x y d → Distance Bonded′ x y d
-  same-distance x y d = distance-there renamed x y d refl refl
-
   pub same-ring : (back : (x y : A) → Bonded′ x y → Bonded′ y x) (o : A) (r : List A) → ShortestPathRing Bonded o r → ShortestPathRing Bonded′ o r
   same-ring back o r h = subst (λ s. ShortestPathRing Bonded′ o s) (map-same r) (ring-there renamed back o o r h)
 

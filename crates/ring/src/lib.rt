@@ -3,7 +3,7 @@ pub mod faults;
 mod writing;
 
 ghost use mathlib.Core.Path.{_≡_};
-ghost use Prim.Native.Nat.{_≤_};
+ghost use Prim.Native.Nat.{_+_, _-_, _^_, _≤_, _<_, min};
 ghost use lib.ListN.{length, replicate};
 ghost use Rattle.graph.specs.Graph.{around};
 ghost use Rattle.ring.specs.Maxima.{ringLeast, ringMost, limitDefault, allowanceMost};
@@ -51,9 +51,10 @@ impl Ring {
         writing::read(words, start, onwards)
     }
 
-    // The shorter way round a ring of k between places g apart; nothing is said where the ring has fewer places.
+    // The shorter way round a ring of k between places g apart. Where the ring has fewer places there is no such way, and the
+    // difference is taken round at 2^64.
     pub fn around(k: usize, g: usize) -> usize
-        ensures { λ r. ⌜ (g ≤ k → r ≡ around k g) ⌝ }
+        ensures { λ r. ⌜ (g ≤ k → r ≡ around k g) × (k < g → r ≡ min g (k + 2 ^ 64 - g)) ⌝ }
     {
         let back = std::num::wrapping_sub_usize(k, g);
         if g < back { g } else { back }

@@ -109,13 +109,6 @@ module _ {Ring : Type 0} (size : Ring → ℕ) (told : Ring → List ℕ) where
       one (counted o₁ l o′ e w) = (o′, omega arith)
       one (full o₁ l o′ e) = absurd (omega arith)
 
-  pub past-allowance : (a : ℕ) (xs : List Ring) (s : State) → s .found .rings ≤ a → a < s .found .rings + length xs → noteAll size told a xs s .found .over ≡ true
-  past-allowance a xs s le lt = go (noteAll size told a xs s .found .over) refl
-    where
-      go : (b : Bool) → noteAll size told a xs s .found .over ≡ b → noteAll size told a xs s .found .over ≡ true
-      go true e = e
-      go false e = absurd (omega (arith, count a xs s e, rings-within a xs s le))
-
   -- a list with room holds the rings one after another
   pub listed : (a : ℕ) (xs : List Ring) (f : Found) (l : List ℕ) → f .over ≡ false → f .rings + length xs ≤ a → f .at + length (encodeBy size told xs) ≤ length l
       → noteAll size told a xs (state f l) ≡ state (record { rings = f .rings + length xs; at = f .at + length (encodeBy size told xs); over = false }) (sets l (f .at) (encodeBy size told xs))

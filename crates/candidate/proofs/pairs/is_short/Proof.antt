@@ -54,7 +54,7 @@ around-requires : tie.Need-around-requires
 around-requires c κs = search needs
 
 returns : tie.Need-returns
-returns c = ap (ltb _) (c .around .ensures (search needs))
+returns c = ap (ltb _) (c .around .ensures .0 (search needs))
 
 pub is-short-spec : {M : Type 1} → statement M
 is-short-spec =

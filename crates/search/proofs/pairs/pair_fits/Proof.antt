@@ -18,7 +18,7 @@ around-requires : tie.Need-around-requires
 around-requires c κs = search needs
 
 returns : tie.Need-returns
-returns c = pair-told _ _ _ _ _ _ _ (c .before .before .atom-at .ensures .0) (c .before .far .ensures) (c .around .ensures (omega (arith, c .before .before .before .before .pre .1 .1 .1 .0)))
+returns c = pair-told _ _ _ _ _ _ _ (c .before .before .atom-at .ensures .0) (c .before .far .ensures) (c .around .ensures .0 (omega (arith, c .before .before .before .before .pre .1 .1 .1 .0)))
 
 pub pair-fits-spec : {M : Type 1} → statement M
 pair-fits-spec = tie.close (tie.spec atom-at-requires far-requires sub-around around-requires returns)

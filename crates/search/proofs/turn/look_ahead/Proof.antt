@@ -41,7 +41,7 @@ next-at-requires c κs = let s = c .before .before .before in
 loop-holds : tie.Need-loop-holds Inv-loop μ-loop
 loop-holds c = let s = c .before .before .before .before in
     let g = c .next-at .ensures in
-    (g .within, (g .after, (g .there, λ z lt. seen-next (s .args .n) (s .args .dist .now) (s .args .k) (take (s .args .len) (s .args .path .now)) (s .args .len) (s .args .a) _ (s .args .from) _ z (path-long (s .pre .0 .path)) (c .before .around .ensures (within _ _ (s .pre .0 .some))) g (seen-start (s .args .n) (s .args .dist .now) (s .args .k) (take (s .args .len) (s .args .path .now)) (s .args .len) (s .args .a) (s .args .from) (path-long (s .pre .0 .path)) (s .pre .0 .some) (s .pre .1 .1 .1) (c .before .before .if1 .left)) lt)))
+    (g .within, (g .after, (g .there, λ z lt. seen-next (s .args .n) (s .args .dist .now) (s .args .k) (take (s .args .len) (s .args .path .now)) (s .args .len) (s .args .a) _ (s .args .from) _ z (path-long (s .pre .0 .path)) (c .before .around .ensures .0 (within _ _ (s .pre .0 .some))) g (seen-start (s .args .n) (s .args .dist .now) (s .args .k) (take (s .args .len) (s .args .path .now)) (s .args .len) (s .args .a) (s .args .from) (path-long (s .pre .0 .path)) (s .pre .0 .some) (s .pre .1 .1 .1) (c .before .before .if1 .left)) lt)))
 
 fits-before-requires : tie.Need-fits-before-requires Inv-loop μ-loop
 fits-before-requires c κs = let s = c .before .before .before .before .before .before in
@@ -50,7 +50,7 @@ fits-before-requires c κs = let s = c .before .before .before .before .before .
 returns-2 : tie.Need-returns-2 Inv-loop μ-loop
 returns-2 c = let s = c .before .before .before .before .before .before .before .before in
     let v = c .before .before .before .loop in
-    looks-yes (s .args .n) (s .args .dist .now) (s .args .k) (take (s .args .len) (s .args .path .now)) (s .args .len) (s .args .a) (s .args .from) (path-long (s .pre .0 .path)) (s .pre .0 .some) (s .pre .1 .1 .1) (c .before .before .before .before .before .before .if1 .left) (v .y) _ (v .inv .1 .0) (c .before .before .before .before .before .around .ensures (within _ _ (s .pre .0 .some))) (v .inv .1 .1 .1) (c .before .before .loop-test .taken) (v .inv .1 .1 .0 (c .before .before .loop-test .taken)) (sym (c .before .fits-before .ensures) ∙ c .if2 .taken)
+    looks-yes (s .args .n) (s .args .dist .now) (s .args .k) (take (s .args .len) (s .args .path .now)) (s .args .len) (s .args .a) (s .args .from) (path-long (s .pre .0 .path)) (s .pre .0 .some) (s .pre .1 .1 .1) (c .before .before .before .before .before .before .if1 .left) (v .y) _ (v .inv .1 .0) (c .before .before .before .before .before .around .ensures .0 (within _ _ (s .pre .0 .some))) (v .inv .1 .1 .1) (c .before .before .loop-test .taken) (v .inv .1 .1 .0 (c .before .before .loop-test .taken)) (sym (c .before .fits-before .ensures) ∙ c .if2 .taken)
 
 add-next-at : tie.Need-add-next-at Inv-loop μ-loop
 add-next-at c = omega (arith, c .before .before .loop-test .taken, c .before .before .before .before .before .before .before .before .pre .1 .1 .0)
@@ -66,12 +66,12 @@ loop-again : tie.Need-loop-again Inv-loop μ-loop
 loop-again c = let s = c .before .before .before .before .before .before .before .before .before in
     let v = c .before .before .before .before .loop in
     let g = c .next-at2 .ensures in
-    (g .within, (omega (arith, g .after, v .inv .1 .0), (g .there, λ z lt. seen-next (s .args .n) (s .args .dist .now) (s .args .k) (take (s .args .len) (s .args .path .now)) (s .args .len) (s .args .a) _ (v .y + 1) _ z (path-long (s .pre .0 .path)) (c .before .before .before .before .before .before .around .ensures (within _ _ (s .pre .0 .some))) g (seen-on (s .args .n) (s .args .dist .now) (s .args .k) (take (s .args .len) (s .args .path .now)) (s .args .len) (s .args .a) (s .args .from) (path-long (s .pre .0 .path)) (s .pre .0 .some) (s .pre .1 .1 .1) (c .before .before .before .before .before .before .before .if1 .left) (v .y) _ (v .inv .1 .0) (c .before .before .before .before .before .before .around .ensures (within _ _ (s .pre .0 .some))) (v .inv .1 .1 .1) (sym (c .before .before .fits-before .ensures) ∙ c .before .if2 .left)) lt)))
+    (g .within, (omega (arith, g .after, v .inv .1 .0), (g .there, λ z lt. seen-next (s .args .n) (s .args .dist .now) (s .args .k) (take (s .args .len) (s .args .path .now)) (s .args .len) (s .args .a) _ (v .y + 1) _ z (path-long (s .pre .0 .path)) (c .before .before .before .before .before .before .around .ensures .0 (within _ _ (s .pre .0 .some))) g (seen-on (s .args .n) (s .args .dist .now) (s .args .k) (take (s .args .len) (s .args .path .now)) (s .args .len) (s .args .a) (s .args .from) (path-long (s .pre .0 .path)) (s .pre .0 .some) (s .pre .1 .1 .1) (c .before .before .before .before .before .before .before .if1 .left) (v .y) _ (v .inv .1 .0) (c .before .before .before .before .before .before .around .ensures .0 (within _ _ (s .pre .0 .some))) (v .inv .1 .1 .1) (sym (c .before .before .fits-before .ensures) ∙ c .before .if2 .left)) lt)))
 
 returns-3 : tie.Need-returns-3 Inv-loop μ-loop
 returns-3 c = let s = c .before .before .before .before .before .before in
     let v = c .before .loop in
-    looks-no (s .args .n) (s .args .dist .now) (s .args .k) (take (s .args .len) (s .args .path .now)) (s .args .len) (s .args .a) (s .args .from) (path-long (s .pre .0 .path)) (s .pre .0 .some) (s .pre .1 .1 .1) (c .before .before .before .before .if1 .left) (v .y) _ (v .inv .1 .0) (c .before .before .before .around .ensures (within _ _ (s .pre .0 .some))) (v .inv .1 .1 .1) (c .loop-test .left)
+    looks-no (s .args .n) (s .args .dist .now) (s .args .k) (take (s .args .len) (s .args .path .now)) (s .args .len) (s .args .a) (s .args .from) (path-long (s .pre .0 .path)) (s .pre .0 .some) (s .pre .1 .1 .1) (c .before .before .before .before .if1 .left) (v .y) _ (v .inv .1 .0) (c .before .before .before .around .ensures .0 (within _ _ (s .pre .0 .some))) (v .inv .1 .1 .1) (c .loop-test .left)
 
 pub look-ahead-spec : {M : Type 1} → statement M
 look-ahead-spec =
