@@ -93,7 +93,11 @@ pub one-table : (n : ℕ) (t : List ℕ) (Later : Answers) → OneAnswer Later �
 unfolding Table
 one-table n t Later = one-link (NamesFirst n t) (IsNetwork n t) Later (one-first n (AtPlace n t) (Unanswered n t)) (λ a h N. no-first n t N a h)
 
--- no place is bad, and what comes later says
+-- the first bad place is named; where none is bad what comes later says
+pub places-at : (c : ℕ) (Bad : ℕ → Type 0) (k : ℕ) (Later : Answers) (p : ℕ) → p < k → Bad p → ((i : ℕ) → i < p → Bad i → ⊥) → Places c Bad k Later (answer c 0 p)
+unfolding Places
+places-at c Bad k Later p l b first = inl (p, l, b, first, refl)
+
 pub places-right : (c : ℕ) (Bad : ℕ → Type 0) (k : ℕ) (Later : Answers) (a : Answer) → ((i : ℕ) → i < k → Bad i → ⊥) → Later a → Places c Bad k Later a
 unfolding Places
 places-right c Bad k Later a h l = inr (h, l)

@@ -1,5 +1,5 @@
 -- 18 is given at the first bad name, and names without one are one-to-one.
-use mathlib.Core.Path.{_≡_, refl, sym, _∙_}
+use mathlib.Core.Path.{_≡_, refl, sym, _∙_, subst}
 use mathlib.Core.Logic.{_⊎_, inl, inr}
 use mathlib.Core.Bool.{Bool, true, false, cond}
 use mathlib.Core.List.{List}
@@ -11,7 +11,7 @@ use borrow.Author.Tests.{eq-eqb, ne-eqb, le-leb, lt-leb}
 use Rattle.network.specs.declared.Answer.{Answer}
 use Rattle.network.specs.Verdict.{answer, accepted}
 use Rattle.network.specs.Chain.{Places, Accepted}
-use Rattle.network.proofs.Chains.{one-accepted, one-places, places-right, places-passed}
+use Rattle.network.proofs.Chains.{one-accepted, one-places, places-at, places-right, places-passed}
 use Rattle.renumber.specs.Names.{name, OneToOne, BadName, seen, badName, nameFaults}
 
 no-bool : {A : Type 0} → _≡_ {A = Bool} false true → A
@@ -94,12 +94,13 @@ scan n names (suc k) i = go (badName n names i) refl (nameFaults n names k (i + 
 module _ (n : ℕ) (names : List ℕ) (long : length names ≡ n) where
   -- 18 at the first place that is bad
   pub names-say : Places 18 (BadName n names) n Accepted (nameFaults n names (length names) 0 accepted)
-  unfolding Places
   names-say = go (scan n names (length names) 0)
     where
       go : {a : Answer} → Found n names (length names) 0 a ⊎ None n names (length names) 0 a → Places 18 (BadName n names) n Accepted a
-      go (inl r) = inl (r .at, omega (arith, r .high), r .bad, (λ i l. r .none i (omega arith) l), r .is)
-      go (inr r) = inr ((λ i l. r .none i (omega arith) (omega arith)), r .is)
+      go (inl r) =
+          subst (Places 18 (BadName n names) n Accepted) (sym (r .is))
+          (places-at 18 (BadName n names) n Accepted (r .at) (omega (arith, r .high)) (r .bad) (λ i l. r .none i (omega arith) l))
+      go (inr r) = places-right 18 (BadName n names) n Accepted _ (λ i l. r .none i (omega arith) (omega arith)) (r .is)
 
   pub one-to-one-of : nameFaults n names (length names) 0 accepted .code ≡ 0 → OneToOne n names
   one-to-one-of z =

@@ -1,6 +1,5 @@
 -- What is said of a candidate is the chain of its checks, in the outline's order, each at the first place.
 use mathlib.Core.Path.{_≡_, refl, ap}
-use mathlib.Core.Logic.{inl, inr}
 use mathlib.Core.Bool.{Bool, true, false, not}
 use mathlib.Core.List.{List}
 use Prim.Native.Nat.{ℕ, _+_, _*_, _%_, _<_}
@@ -15,7 +14,7 @@ use Rattle.network.specs.Maxima.{places}
 use Rattle.network.specs.Network.{IsNetwork}
 use Rattle.network.specs.Verdict.{accepted}
 use Rattle.network.specs.Chain.{Answers, Check, Sizes, Table, Places, Accepted}
-use Rattle.network.proofs.Chains.{check-says, in-range, range-true, range-false, check-long, sizes-say, table-says}
+use Rattle.network.proofs.Chains.{check-says, in-range, range-true, range-false, check-long, sizes-say, table-says, places-at, places-right}
 use Rattle.ring.specs.Maxima.{ringLeast, ringMost}
 use Rattle.ring.specs.Firsts.{firstOf}
 use Rattle.ring.specs.Writes.{notRing}
@@ -28,7 +27,6 @@ use Rattle.ring.proofs.CandidateVerdicts.{bonded-of, of-bonded, differe
 places-says : (c : ℕ) (bad : ℕ → Bool) (k : ℕ) (later : Answer) (Bad : ℕ → Type 0) (Later : Answers)
     → ((i : ℕ) → i < k → bad i ≡ true → Bad i) → ((i : ℕ) → i < k → bad i ≡ false → Bad i → ⊥)
     → (((i : ℕ) → i < k → Bad i → ⊥) → Later later) → Places c Bad k Later (firstPlace c bad k later)
-unfolding Places
 places-says c bad k later Bad Later f g rest = go (decLt (firstOf bad k 0) k)
   where
     F : (i : ℕ) → i < firstOf bad k 0 → bad i ≡ false
@@ -37,10 +35,10 @@ places-says c bad k later Bad Later f g rest = go (decLt (firstOf bad k 0) k)
     go : Dec (firstOf bad k 0 < k) → Places c Bad k Later (firstPlace c bad k later)
     go (yes l) =
         let here : bad (firstOf bad k 0) ≡ true = first-of bad k 0 .here (omega arith) in
-        rw (lt-ltb (firstOf bad k 0) k l) (inl (firstOf bad k 0, l, f (firstOf bad k 0) l here, (λ i m. g i (omega arith) (F i m)), refl))
+        rw (lt-ltb (firstOf bad k 0) k l) (places-at c Bad k Later (firstOf bad k 0) l (f (firstOf bad k 0) l here) (λ i m. g i (omega arith) (F i m)))
     go (no l) =
         let none : (i : ℕ) → i < k → Bad i → ⊥ = λ i m. g i m (F i (omega arith)) in
-        rw (le-ltb (firstOf bad k 0) k (omega arith)) (inr (none, rest none))
+        rw (le-ltb (firstOf bad k 0) k (omega arith)) (places-right c Bad k Later later none (rest none))
 
 seen-says : (r : List ℕ) (j : ℕ) → seen r j ≡ true → Repeated r j
 seen-says r j h =
