@@ -14,8 +14,8 @@ use Rattle.graph.proofs.Lists.{at-place}
 use Rattle.network.specs.Maxima.{places}
 use Rattle.network.specs.Network.{Counted}
 use Rattle.network.specs.Verdict.{accepted}
-use Rattle.bnw.specs.File.{Bond, Earlier, version, bondsMost, partner, partners, ValidBonds, fileOf}
-use Rattle.bnw.specs.Reading.{earlier, follows, bondIn, bondsBelow, bondFault, orAt, headFault, readVerdict}
+use Rattle.bnw.specs.File.{Bond, EarlierBond, version, bondsMost, partner, partners, ValidBonds, fileOf}
+use Rattle.bnw.specs.Reading.{earlier, inOrder, bondIn, bondsBelow, fileBondFault, orAt, headFault, readVerdict}
 use Rattle.bnw.proofs.Runs.{length-more, gather-fits}
 use Rattle.bnw.proofs.Partners.{partner-first, partner-second, partners-fit}
 use Rattle.bnw.proofs.HeadFaults.{head-rest}
@@ -59,7 +59,7 @@ module _ (n : ℕ) where
 module _ (n : ℕ) (bonds : List Bond) (C : Counted n) (B : ValidBonds n bonds) where
   -- each bond of the file is right
   right : (k : ℕ) → k < length bonds → Right n (bondIn (fileOf n bonds)) k
-  unfolding follows
+  unfolding inOrder
   right k l =
       let e = bond-read n bonds k l in
       let m = at-place none bonds k l in
@@ -81,12 +81,12 @@ module _ (n : ℕ) (bonds : List Bond) (C : Counted n) (B : ValidBonds n bonds) 
       apart : bondIn (fileOf n bonds) k .first ≡ bondIn (fileOf n bonds) k .second → ⊥
       apart d = omega (arith, d, ap (λ (b : Bond). b .first) (bond-read n bonds k l), ap (λ (b : Bond). b .second) (bond-read n bonds k l), B .ordered (getD bonds k none) (at-place none bonds k l))
 
-      after : Dec (k ≡ 0) → follows (bondIn (fileOf n bonds)) k ≡ true
+      after : Dec (k ≡ 0) → inOrder (bondIn (fileOf n bonds)) k ≡ true
       after (yes z) = rw (eq-eqb k 0 z)
       after (no z) =
           rw (ne-eqb k 0 z)
           (ap₂ earlier (bond-read n bonds (k - 1) (omega arith)) (bond-read n bonds k l)
-          ∙ earlier-is (getD bonds (k - 1) none) (getD bonds k none) (ascending-places Earlier none bonds (B .ascends) (k - 1) k (omega arith) l))
+          ∙ earlier-is (getD bonds (k - 1) none) (getD bonds k none) (ascending-places EarlierBond none bonds (B .ascends) (k - 1) k (omega arith) l))
 
   module _ (room : ℕ) where
     head : headFault (fileOf n bonds) room ≡ cond (ltb room (places * n)) 25 0
@@ -98,7 +98,7 @@ module _ (n : ℕ) (bonds : List Bond) (C : Counted n) (B : ValidBonds n bonds) 
     unfolding readVerdict orAt
     file-accepted h =
         rw (head, le-ltb room (places * n) h, atoms-field n bonds, bonds-field n bonds)
-        (clean-scan (bondFault n (bondIn (fileOf n bonds))) (length bonds) 0 (λ j l k. right-none n (bondIn (fileOf n bonds)) j (right j (omega arith))))
+        (clean-scan (fileBondFault n (bondIn (fileOf n bonds))) (length bonds) 0 (λ j l k. right-none n (bondIn (fileOf n bonds)) j (right j (omega arith))))
 
     -- and only where there is room for its table
     pub file-fits : readVerdict (fileOf n bonds) room .code ≡ 0 → places * n ≤ room

@@ -13,7 +13,7 @@ use Rattle.network.specs.declared.Answer.{Answer}
 use Rattle.network.specs.Maxima.{atomsMost}
 use Rattle.network.specs.Verdict.{refusal}
 use Rattle.bnw.specs.File.{version, bondsMost, headLength, bondLength}
-use Rattle.bnw.specs.Reading.{field, versionIn, atomsIn, bondsIn, Bytes, signed, outside, marked, headFault, readVerdict}
+use Rattle.bnw.specs.Reading.{field, versionIn, atomsIn, bondsIn, Bytes, signed, outOfRange, marked, headFault, readVerdict}
 use Rattle.bnw.proofs.Signs.{above-outside}
 use Rattle.bnw.proofs.BondFaults.{given}
 
@@ -35,11 +35,11 @@ pick-some false false false false z = omega (arith, z)
 
 longFault : List ℕ → ℕ
 longFault file =
-    pickFault (not (marked file)) (not (eqb (versionIn file) version)) (outside 1 atomsMost (signed (atomsIn file))) (outside 0 bondsMost (signed (bondsIn file)))
+    pickFault (not (marked file)) (not (eqb (versionIn file) version)) (outOfRange 1 atomsMost (signed (atomsIn file))) (outOfRange 0 bondsMost (signed (bondsIn file)))
 
 module _ (file : List ℕ) (room : ℕ) (few : bondsIn file < 65536) (long : greatest < length file) where
   -- where the bonds are not too many, they do not fill the file
-  not-whole : (later : ℕ) → cond (outside 0 bondsMost (signed (bondsIn file))) 23 (cond (not (eqb (length file) (headLength + bondLength * bondsIn file))) 24 later) ≡ cond (outside 0 bondsMost (signed (bondsIn file))) 23 24
+  not-whole : (later : ℕ) → cond (outOfRange 0 bondsMost (signed (bondsIn file))) 23 (cond (not (eqb (length file) (headLength + bondLength * bondsIn file))) 24 later) ≡ cond (outOfRange 0 bondsMost (signed (bondsIn file))) 23 24
   not-whole later =
       elim (decLe (bondsIn file) bondsMost) [
         | yes l ↦ (let e : length file ≡ headLength + bondLength * bondsIn file → ⊥ = λ e. omega arith in rw (ne-eqb (length file) (headLength + bondLength * bondsIn file) e) refl)

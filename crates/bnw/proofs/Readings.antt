@@ -13,7 +13,7 @@ use Rattle.network.specs.Maxima.{atomsMost, places}
 use Rattle.network.specs.Network.{Counted}
 use Rattle.network.specs.Verdict.{refusal, answer}
 use Rattle.bnw.specs.File.{Bond, version, bondsMost, headLength, bondLength, partners, ValidBonds, tableOf}
-use Rattle.bnw.specs.Reading.{field, Bytes, marked, inside, follows, full, bondIn, bondsBelow, bondFault, firstBond, orAt, headFault, readVerdict, readValue, Reads}
+use Rattle.bnw.specs.Reading.{field, Bytes, marked, inside, inOrder, full, bondIn, bondsBelow, fileBondFault, firstBond, orAt, headFault, readVerdict, readValue, ReadOutcome}
 use Rattle.graph.proofs.Lists.{sets-front}
 use Rattle.bnw.proofs.Partners.{table-length}
 use Rattle.bnw.proofs.BondFaults.{given}
@@ -77,9 +77,9 @@ module _ (file : List ℕ) (room : ℕ) where
       mark long false e = absurd (omega (arith, head-20 file room long false e refl))
 
 -- the numbers that a bond gives
-bond-number : (n : ℕ) (bond : ℕ → Bond) (c : ℕ) → (c ≡ 0 → ⊥) → (c ≡ 26 → ⊥) → (c ≡ 27 → ⊥) → (k : ℕ) → bondFault n bond k ≡ c → ⊥
-unfolding bondFault
-bond-number n bond c z p q k e = go (not (inside n (bond k) && follows bond k)) (full bond k (bond k .first) || full bond k (bond k .second)) e
+bond-number : (n : ℕ) (bond : ℕ → Bond) (c : ℕ) → (c ≡ 0 → ⊥) → (c ≡ 26 → ⊥) → (c ≡ 27 → ⊥) → (k : ℕ) → fileBondFault n bond k ≡ c → ⊥
+unfolding fileBondFault
+bond-number n bond c z p q k e = go (not (inside n (bond k) && inOrder bond k)) (full bond k (bond k .first) || full bond k (bond k .second)) e
   where
     go : (a b : Bool) → cond a 26 (cond b 27 0) ≡ c → ⊥
     go true b e = p (sym e)
@@ -90,7 +90,7 @@ abbrev code : Answer → ℕ
 code a = a .code
 
 module _ (file before : List ℕ) (c : ℕ) (ec : c ≡ headFault file (length before)) where
-  pub reads-head : (a : Answer) (v : ℤ) → (c ≡ 0 → ⊥) → a ≡ refusal c → v ≡ readValue file c → Reads file before before (record { answer = a; atoms = 0; bonds = 0; value = v })
+  pub reads-head : (a : Answer) (v : ℤ) → (c ≡ 0 → ⊥) → a ≡ refusal c → v ≡ readValue file c → ReadOutcome file before before (record { answer = a; atoms = 0; bonds = 0; value = v })
   unfolding readVerdict
   reads-head a v z ea ev =
       record {
@@ -100,7 +100,7 @@ module _ (file before : List ℕ) (c : ℕ) (ec : c ≡ headFault file (length b
         accepts = λ h. absurd (z (sym (ap code ea) ∙ h));
       }
 
-  module _ (z : c ≡ 0) (atoms bonds : ℕ) (en : atoms ≡ field file 5) (em : bonds ≡ field file 7) (a : Answer) (ea : a ≡ firstBond (bondFault atoms (bondIn file)) bonds 0) where
+  module _ (z : c ≡ 0) (atoms bonds : ℕ) (en : atoms ≡ field file 5) (em : bonds ≡ field file 7) (a : Answer) (ea : a ≡ firstBond (fileBondFault atoms (bondIn file)) bonds 0) where
     judged : a ≡ readVerdict file (length before)
     unfolding readVerdict orAt
     judged = rw (← ec, z, ← en, ← em) ea
@@ -108,10 +108,10 @@ module _ (file before : List ℕ) (c : ℕ) (ec : c ≡ headFault file (length b
     valued : pos 0 ≡ readValue file (a .code)
     valued =
         value-else file (a .code)
-        (λ h. scan-never 22 (omega arith) (bondFault atoms (bondIn file)) (bond-number atoms (bondIn file) 22 (omega arith) (omega arith) (omega arith)) bonds 0 (ap code (sym ea) ∙ h))
-        (λ h. scan-never 23 (omega arith) (bondFault atoms (bondIn file)) (bond-number atoms (bondIn file) 23 (omega arith) (omega arith) (omega arith)) bonds 0 (ap code (sym ea) ∙ h))
+        (λ h. scan-never 22 (omega arith) (fileBondFault atoms (bondIn file)) (bond-number atoms (bondIn file) 22 (omega arith) (omega arith) (omega arith)) bonds 0 (ap code (sym ea) ∙ h))
+        (λ h. scan-never 23 (omega arith) (fileBondFault atoms (bondIn file)) (bond-number atoms (bondIn file) 23 (omega arith) (omega arith) (omega arith)) bonds 0 (ap code (sym ea) ∙ h))
 
-    pub reads-bond : (a .code ≡ 0 → ⊥) → Reads file before before (record { answer = a; atoms = 0; bonds = 0; value = pos 0 })
+    pub reads-bond : (a .code ≡ 0 → ⊥) → ReadOutcome file before before (record { answer = a; atoms = 0; bonds = 0; value = pos 0 })
     reads-bond h = record { verdict = judged; signs = valued; refused = λ _. (refl, refl, refl); accepts = λ d. absurd (h d) }
 
     module _ (B : Bytes file) where
@@ -126,12 +126,12 @@ module _ (file before : List ℕ) (c : ℕ) (ec : c ≡ headFault file (length b
 
       module _ (h : a .code ≡ 0) where
         pub bonds-valid : ValidBonds atoms (bondsBelow (bondIn file) bonds)
-        bonds-valid = valid atoms (bondIn file) bonds (λ k l. right-of atoms (bondIn file) k (scan-clean (bondFault atoms (bondIn file)) bonds 0 (ap code (sym ea) ∙ h) k (omega arith) (omega arith)))
+        bonds-valid = valid atoms (bondIn file) bonds (λ k l. right-of atoms (bondIn file) k (scan-clean (fileBondFault atoms (bondIn file)) bonds 0 (ap code (sym ea) ∙ h) k (omega arith) (omega arith)))
 
         pub bonds-eight : (x : ℕ) → length (partners (bondsBelow (bondIn file) bonds) x) ≤ places
         bonds-eight = bonds-valid .eight
 
-        pub reads-all : (after : List ℕ) → after ≡ sets before 0 (tableOf atoms (bondsBelow (bondIn file) bonds)) → Reads file before after (record { answer = a; atoms = atoms; bonds = bonds; value = pos 0 })
+        pub reads-all : (after : List ℕ) → after ≡ sets before 0 (tableOf atoms (bondsBelow (bondIn file) bonds)) → ReadOutcome file before after (record { answer = a; atoms = atoms; bonds = bonds; value = pos 0 })
         reads-all after f =
             let long : length (tableOf atoms (bondsBelow (bondIn file) bonds)) ≡ places * atoms = table-length (bondsBelow (bondIn file) bonds) bonds-eight atoms in
             record {

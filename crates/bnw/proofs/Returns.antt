@@ -16,7 +16,7 @@ use Rattle.graph.proofs.Lists.{gather-of, gather-has, gather-ascending, count-o
 use Rattle.network.specs.Maxima.{places, free}
 use Rattle.network.specs.Network.{word, Bonded, Counted, IsNetwork, neighbours}
 use Rattle.network.proofs.Bonds.{bonded-neighbour, neighbour-bonded, bonded-to, bonded-back, bonded-other, finite}
-use Rattle.bnw.specs.File.{Bond, Earlier, bondAt, bondsOf, partners, ValidBonds, rowOf, tableOf}
+use Rattle.bnw.specs.File.{Bond, EarlierBond, bondAt, bondsOf, partners, ValidBonds, rowOf, tableOf}
 use Rattle.bnw.proofs.Runs.{gather-more}
 use Rattle.bnw.proofs.TableBonds.{bond-above, bond-below, bond-is}
 use Rattle.bnw.proofs.Valid.{earlier-not, earlier-on}
@@ -73,25 +73,25 @@ ascending-count n = go n 0 (omega arith)
     go (suc m) a h = (λ j k. let r = count-of m (suc a) k in omega arith, go m (suc a) (omega arith))
 
 module _ (n : ℕ) (t : List ℕ) (N : IsNetwork n t) where
-  pub bonds-ascend : Ascending Earlier (bondsOf t)
+  pub bonds-ascend : Ascending EarlierBond (bondsOf t)
   unfolding bondsOf
   bonds-ascend =
-      gather-ascending (λ i j. (i < j) × (j < length t)) Earlier (bondAt t) (count (length t) 0) (ascending-count (length t)) own
-      (λ i j a b r p q. subst (λ (c : Bond). Earlier c b) (sym (stands-at t i a p)) (subst (λ (c : Bond). Earlier (bond (i / places) (getD t i 0)) c) (sym (stands-at t j b q)) (across i j (r .0) (r .1) (not-free t j b q))))
+      gather-ascending (λ i j. (i < j) × (j < length t)) EarlierBond (bondAt t) (count (length t) 0) (ascending-count (length t)) own
+      (λ i j a b r p q. subst (λ (c : Bond). EarlierBond c b) (sym (stands-at t i a p)) (subst (λ (c : Bond). EarlierBond (bond (i / places) (getD t i 0)) c) (sym (stands-at t j b q)) (across i j (r .0) (r .1) (not-free t j b q))))
     where
-      own : (i : ℕ) → Ascending Earlier (bondAt t i)
+      own : (i : ℕ) → Ascending EarlierBond (bondAt t i)
       own i = alone (bondAt t i) refl
         where
-          alone : (bs : List Bond) → bondAt t i ≡ bs → Ascending Earlier bs
+          alone : (bs : List Bond) → bondAt t i ≡ bs → Ascending EarlierBond bs
           alone [] e = tt
           alone (b ∷ bs) e =
               let z : b ∷ bs ≡ bond (i / places) (getD t i 0) ∷ [] = sym e ∙ bond-is t i (λ h. List·Memᴰ·not-nil (subst (λ (cs : List Bond). b ∈ cs) (sym e ∙ h) (List·Memᴰ·head refl))) in
-              subst (Ascending Earlier) (sym z) (λ c k. absurd (List·Memᴰ·not-nil k), tt)
+              subst (Ascending EarlierBond) (sym z) (λ c k. absurd (List·Memᴰ·not-nil k), tt)
 
-      across : (i j : ℕ) → i < j → j < length t → (getD t j 0 ≡ free → ⊥) → Earlier (bond (i / places) (getD t i 0)) (bond (j / places) (getD t j 0))
+      across : (i j : ℕ) → i < j → j < length t → (getD t j 0 ≡ free → ⊥) → EarlierBond (bond (i / places) (getD t i 0)) (bond (j / places) (getD t j 0))
       across i j l h f = go (ℕ-discrete (i / places) (j / places))
         where
-          go : Dec (i / places ≡ j / places) → Earlier (bond (i / places) (getD t i 0)) (bond (j / places) (getD t j 0))
+          go : Dec (i / places ≡ j / places) → EarlierBond (bond (i / places) (getD t i 0)) (bond (j / places) (getD t j 0))
           go (no d) = inl (omega arith)
           go (yes d) =
               let ei : j / places * places + i % places ≡ i = omega arith in
@@ -200,7 +200,7 @@ module _ (n : ℕ) (t : List ℕ) (N : IsNetwork n t) where
 -- from bonds to their table and back
 pub bonds-back : (n : ℕ) (bonds : List Bond) → Counted n → ValidBonds n bonds → bondsOf (tableOf n bonds) ≡ bonds
 bonds-back n bonds C B =
-    ascending-unique Earlier earlier-not earlier-on (bondsOf (tableOf n bonds)) bonds (bonds-ascend n (tableOf n bonds) (table-network n bonds C B)) (B .ascends)
+    ascending-unique EarlierBond earlier-not earlier-on (bondsOf (tableOf n bonds)) bonds (bonds-ascend n (tableOf n bonds) (table-network n bonds C B)) (B .ascends)
     (λ b m. let r = bonds-bonded (tableOf n bonds) b m in back b (r .0) (bonded-joined n bonds C B (b .first) (b .second) (r .1)))
     (λ b m. bonded-bonds (tableOf n bonds) (b .first) (b .second) (B .ordered b m) (joined-bonded n bonds C B (b .first) (b .second) (inl m)))
   where

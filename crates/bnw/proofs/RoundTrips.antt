@@ -19,11 +19,11 @@ use borrow.Author.Tests.{le-ltb}
 use Rattle.network.specs.declared.Answer.{Answer}
 use Rattle.network.specs.Maxima.{places}
 use Rattle.network.specs.Network.{IsNetwork}
-use Rattle.bnw.specs.declared.Reading.{Reading}
-use Rattle.bnw.specs.declared.Written.{Written}
+use Rattle.bnw.specs.declared.FileRead.{FileRead}
+use Rattle.bnw.specs.declared.FileWritten.{FileWritten}
 use Rattle.bnw.specs.File.{Bond, fileOf, tableOf, bondsOf}
-use Rattle.bnw.specs.Reading.{field, bondIn, bondsBelow, readVerdict, readValue, ReadsAs, Reads}
-use Rattle.bnw.specs.Writing.{Writes, FileOfNetwork}
+use Rattle.bnw.specs.Reading.{field, bondIn, bondsBelow, readVerdict, readValue, ReadsAs, ReadOutcome}
+use Rattle.bnw.specs.Writing.{WriteOutcome, FileOfNetwork}
 use Rattle.bnw.proofs.Partners.{table-length}
 use Rattle.bnw.proofs.Writings.{network-judged, writes-network}
 use Rattle.bnw.proofs.Decoded.{atoms-field, bonds-field, bonds-read}
@@ -43,7 +43,7 @@ file-bonds n m bonds more e =
     sym (bonds-read n bonds) ∙ ap₂ (λ (file : List ℕ) (k : ℕ). bondsBelow (bondIn file) k) e (sym (bonds-field n bonds) ∙ ap (λ (file : List ℕ). field file 7) e ∙ bonds-field m more) ∙ bonds-read m more
 
 -- an accepted reading
-module _ (file before after : List ℕ) (r : Reading) (R : Reads file before after r) (z : r .answer .code ≡ 0) where
+module _ (file before after : List ℕ) (r : FileRead) (R : ReadOutcome file before after r) (z : r .answer .code ≡ 0) where
   abbrev read-as : ReadsAs file before after r
   read-as = R .accepts z
 
@@ -58,7 +58,7 @@ module _ (file before after : List ℕ) (r : Reading) (R : Reads file before aft
   same-file : fileOf (r .atoms) (bondsOf (take (places * r .atoms) after)) ≡ file
   same-file = ap (λ (t : List ℕ). fileOf (r .atoms) (bondsOf t)) table-is ∙ ap (fileOf (r .atoms)) (bonds-back (r .atoms) (read-as .list) (read-as .counted) (read-as .valid)) ∙ sym (read-as .format)
 
-  pub read-write : (lent written : List ℕ) (w : Written) → Writes (r .atoms) (take (places * r .atoms) after) lent written w → length file ≤ length lent
+  pub read-write : (lent written : List ℕ) (w : FileWritten) → WriteOutcome (r .atoms) (take (places * r .atoms) after) lent written w → length file ≤ length lent
       → (w .answer .code ≡ 0) × (w .bytes ≡ length file) × (take (w .bytes) written ≡ file)
   read-write lent written w W h =
       let e : length (fileOf (r .atoms) (bondsOf (take (places * r .atoms) after))) ≡ length file = ap length same-file in
@@ -69,14 +69,14 @@ module _ (file before after : List ℕ) (r : Reading) (R : Reads file before aft
       )
 
 -- an accepted writing
-module _ (n : ℕ) (t lent written : List ℕ) (w : Written) (W : Writes n t lent written w) (z : w .answer .code ≡ 0) where
+module _ (n : ℕ) (t lent written : List ℕ) (w : FileWritten) (W : WriteOutcome n t lent written w) (z : w .answer .code ≡ 0) where
   pub file-is : take (w .bytes) written ≡ fileOf n (bondsOf t)
   file-is = ap (take (w .bytes)) (W .written z) ∙ take-at (fileOf n (bondsOf t)) (drop (w .bytes) lent) (w .bytes) (sym (W .number z))
 
   network : IsNetwork n t
   network = writes-network n t (length lent) (sym (ap code (W .verdict)) ∙ z)
 
-  pub write-read : (before after : List ℕ) (r : Reading) → Reads (take (w .bytes) written) before after r → places * n ≤ length before
+  pub write-read : (before after : List ℕ) (r : FileRead) → ReadOutcome (take (w .bytes) written) before after r → places * n ≤ length before
       → (r .answer .code ≡ 0) × (r .atoms ≡ n) × (r .bonds ≡ length (bondsOf t)) × (take (places * n) after ≡ t)
   write-read before after r R h =
       let ok : r .answer .code ≡ 0 =
@@ -91,7 +91,7 @@ module _ (n : ℕ) (t lent written : List ℕ) (w : Written) (W : Writes n t len
         ap (λ (k : ℕ). take (places * k) after) (sym same) ∙ table-is (take (w .bytes) written) before after r R ok ∙ ap₂ tableOf same bonds ∙ table-back n t network,
       )
 
-pub accepted-exactly : (file before after : List ℕ) (r : Reading) → Reads file before after r → (r .answer .code ≡ 0) ↔ FileOfNetwork file (length before)
+pub accepted-exactly : (file before after : List ℕ) (r : FileRead) → ReadOutcome file before after r → (r .answer .code ≡ 0) ↔ FileOfNetwork file (length before)
 accepted-exactly file before after r R = (
   λ z.
       let a = R .accepts z in
@@ -109,10 +109,10 @@ accepted-exactly file before after r R = (
 )
 
 -- one outcome
-abbrev reading : Answer → ℕ → ℕ → ℤ → Reading
+abbrev reading : Answer → ℕ → ℕ → ℤ → FileRead
 reading a n m v = record { answer = a; atoms = n; bonds = m; value = v }
 
-pub reads-one : (file before one other : List ℕ) (r s : Reading) → Reads file before one r → Reads file before other s → (r ≡ s) × (one ≡ other)
+pub reads-one : (file before one other : List ℕ) (r s : FileRead) → ReadOutcome file before one r → ReadOutcome file before other s → (r ≡ s) × (one ≡ other)
 reads-one file before one other r s R S = go (ℕ-discrete (r .answer .code) 0)
   where
     answers : r .answer ≡ s .answer
@@ -139,10 +139,10 @@ reads-one file before one other r s R S = go (ℕ-discrete (r .answer .code) 0)
           p .filled ∙ ap₂ (λ (n : ℕ) (bonds : List Bond). tableOf n bonds ++ drop (places * n) before) atoms bonds ∙ sym (q .filled),
         )
 
-abbrev writing : Answer → ℕ → Written
+abbrev writing : Answer → ℕ → FileWritten
 writing a k = record { answer = a; bytes = k }
 
-pub writes-one : (n : ℕ) (t before one other : List ℕ) (w v : Written) → Writes n t before one w → Writes n t before other v → (w ≡ v) × (one ≡ other)
+pub writes-one : (n : ℕ) (t before one other : List ℕ) (w v : FileWritten) → WriteOutcome n t before one w → WriteOutcome n t before other v → (w ≡ v) × (one ≡ other)
 writes-one n t before one other w v W U = go (ℕ-discrete (w .answer .code) 0)
   where
     answers : w .answer ≡ v .answer

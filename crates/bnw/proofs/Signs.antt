@@ -9,7 +9,7 @@ use lib.IntN.{pos, negsuc, _-ℤ_}
 use mir.Syntax.{w32}
 use mir.Val.{SFits, toZ, ofZ}
 use mir.Facts.{toZ-pos, toZ-ofZ}
-use Rattle.bnw.specs.Reading.{signed, outside}
+use Rattle.bnw.specs.Reading.{signed, outOfRange}
 
 module _ (v : ℕ) (h : v < 65536) where
   word-pos : toZ w32 v ≡ pos v
@@ -29,24 +29,24 @@ module _ (v : ℕ) (h : v < 65536) where
   unfolding signed
   signed-high l = toZ-ofZ signed-fits ∙ rw (le-ltb v 32768 l, word-pos)
 
--- a count that is negative is outside as one that is too great
+-- a count that is negative is outOfRange as one that is too great
 module _ (low high v : ℕ) where
   signed-pos : v < 32768 → signed v ≡ pos v
   unfolding signed
   signed-pos l = rw (lt-ltb v 32768 l)
 
-  pub below-outside : v < low → high < 32768 → low ≤ high → outside low high (signed v) ≡ true
-  unfolding outside
+  pub below-outside : v < low → high < 32768 → low ≤ high → outOfRange low high (signed v) ≡ true
+  unfolding outOfRange
   below-outside h l k = rw (signed-pos (omega arith), lt-leb _ _ h)
 
-  pub above-outside : v < 65536 → high < v → outside low high (signed v) ≡ true
-  unfolding outside signed
+  pub above-outside : v < 65536 → high < v → outOfRange low high (signed v) ≡ true
+  unfolding outOfRange signed
   above-outside l h = go (decLt v 32768)
     where
-      go : Dec (v < 32768) → outside low high (signed v) ≡ true
+      go : Dec (v < 32768) → outOfRange low high (signed v) ≡ true
       go (yes k) = rw (signed-pos k, lt-leb _ _ h) (simp and-false)
       go (no k) = rw (le-ltb v 32768 (omega arith), below-zero v l)
 
-  pub not-outside : high < 32768 → low ≤ v → v ≤ high → outside low high (signed v) ≡ false
-  unfolding outside
+  pub not-outside : high < 32768 → low ≤ v → v ≤ high → outOfRange low high (signed v) ≡ false
+  unfolding outOfRange
   not-outside k l h = rw (signed-pos (omega arith), le-leb _ _ l, le-leb _ _ h)

@@ -11,7 +11,7 @@ use Rattle.graph.specs.Lists.{_∈_, Ascending, gather, count}
 use Rattle.graph.proofs.Lists.{gather-of, gather-has, gather-ascending, place-of, at-place}
 use Rattle.network.specs.Maxima.{places, free}
 use Rattle.network.specs.Network.{word, Holds, Bonded, Counted, IsNetwork}
-use Rattle.bnw.specs.File.{Bond, Earlier, partner, partners, ValidBonds, rowOf, tableOf}
+use Rattle.bnw.specs.File.{Bond, EarlierBond, partner, partners, ValidBonds, rowOf, tableOf}
 use Rattle.bnw.proofs.Partners.{partner-first, partner-second, partner-none, row-length, table-length}
 
 -- the bond of two atoms
@@ -50,14 +50,14 @@ module _ (bonds : List Bond) (ordered : (b : Bond) → b ∈ bonds → b .first 
       (subst (λ (xs : List ℕ). y ∈ xs) (sym (partner-second x (bond y x) y refl (λ e. omega (arith, ordered (bond y x) h)) x refl refl)) (List·Memᴰ·head refl))
 
   -- partners ascend where the bonds do
-  ascending-with : (xs : List Bond) → ((b : Bond) → b ∈ xs → b .first < b .second) → Ascending Earlier xs → Ascending (λ a b. Earlier a b × (a .first < a .second) × (b .first < b .second)) xs
+  ascending-with : (xs : List Bond) → ((b : Bond) → b ∈ xs → b .first < b .second) → Ascending EarlierBond xs → Ascending (λ a b. EarlierBond a b × (a .first < a .second) × (b .first < b .second)) xs
   ascending-with [] o h = tt
   ascending-with (x ∷ xs) o h = (λ b m. (h .0 b m, o x (List·Memᴰ·head refl), o b (List·Memᴰ·tail m)), ascending-with xs (λ b m. o b (List·Memᴰ·tail m)) (h .1))
 
-  pub partners-ascend : Ascending Earlier bonds → (x : ℕ) → Ascending _<_ (partners bonds x)
+  pub partners-ascend : Ascending EarlierBond bonds → (x : ℕ) → Ascending _<_ (partners bonds x)
   unfolding partners
   partners-ascend h x =
-      gather-ascending (λ a b. Earlier a b × (a .first < a .second) × (b .first < b .second)) _<_ (partner x) bonds (ascending-with bonds ordered h) own
+      gather-ascending (λ a b. EarlierBond a b × (a .first < a .second) × (b .first < b .second)) _<_ (partner x) bonds (ascending-with bonds ordered h) own
       (λ a b u v e p q. across a b u v (e .0) (e .1) (e .2) (partner-of x u a p) (partner-of x v b q))
     where
       alone : (xs : List ℕ) → length xs ≤ 1 → Ascending _<_ xs
@@ -73,7 +73,7 @@ module _ (bonds : List Bond) (ordered : (b : Bond) → b ∈ bonds → b .first 
           short (no e) (yes d) = omega (arith, ap length (partner-second x b _ refl e _ refl d))
           short (no e) (no d) = omega (arith, ap length (partner-none x b _ refl e _ refl d))
 
-      across : (a b : Bond) (u v : ℕ) → Earlier a b → a .first < a .second → b .first < b .second
+      across : (a b : Bond) (u v : ℕ) → EarlierBond a b → a .first < a .second → b .first < b .second
           → ((a .first ≡ x) × (a .second ≡ u)) ⊎ ((a .second ≡ x) × (a .first ≡ u)) → ((b .first ≡ x) × (b .second ≡ v)) ⊎ ((b .second ≡ x) × (b .first ≡ v)) → u < v
       across a b u v (inl e) i j (inl p) (inl q) = absurd (omega (arith, p .0, q .0))
       across a b u v (inr e) i j (inl p) (inl q) = omega (arith, e .1, p .1, q .1)

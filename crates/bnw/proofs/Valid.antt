@@ -14,69 +14,69 @@ use Rattle.graph.proofs.Lists.{map-of, count-of, append-ascending}
 use Rattle.network.specs.declared.Answer.{Answer}
 use Rattle.network.specs.Maxima.{places}
 use Rattle.network.specs.Verdict.{accepted}
-use Rattle.bnw.specs.File.{Bond, Earlier, partner, partners, ValidBonds}
-use Rattle.bnw.specs.Reading.{earlier, follows, bondsBelow, bondFault, orAt, firstBond}
+use Rattle.bnw.specs.File.{Bond, EarlierBond, partner, partners, ValidBonds}
+use Rattle.bnw.specs.Reading.{earlier, inOrder, bondsBelow, fileBondFault, orAt, firstBond}
 use Rattle.bnw.proofs.Runs.{map-more}
 use Rattle.bnw.proofs.Partners.{partner-first, partner-second, partner-none, partners-more, partners-start}
 use Rattle.bnw.proofs.BondFaults.{fault-first, fault-second, fault-order, fault-after, fault-ninth-first, fault-ninth-second, fault-none}
 
 -- the order of bonds
-pub earlier-not : (a : Bond) → Earlier a a → ⊥
+pub earlier-not : (a : Bond) → EarlierBond a a → ⊥
 earlier-not a (inl h) = omega arith
 earlier-not a (inr h) = omega (arith, h .1)
 
-pub earlier-on : (a b c : Bond) → Earlier a b → Earlier b c → Earlier a c
+pub earlier-on : (a b c : Bond) → EarlierBond a b → EarlierBond b c → EarlierBond a c
 earlier-on a b c (inl h) (inl k) = inl (omega arith)
 earlier-on a b c (inl h) (inr k) = inl (omega (arith, k .0))
 earlier-on a b c (inr h) (inl k) = inl (omega (arith, h .0))
 earlier-on a b c (inr h) (inr k) = inr (h .0 ∙ k .0, omega (arith, h .1, k .1))
 
-pub earlier-of : (a b : Bond) → earlier a b ≡ true → Earlier a b
+pub earlier-of : (a b : Bond) → earlier a b ≡ true → EarlierBond a b
 unfolding earlier
 earlier-of a b e = go (decLt (a .first) (b .first)) (ℕ-discrete (a .first) (b .first)) (decLt (a .second) (b .second))
   where
     never : _≡_ {A = Bool} false true → ⊥
     never q = let z : _≡_ {A = ℕ} 0 1 = cc in omega arith
 
-    go : Dec (a .first < b .first) → Dec (a .first ≡ b .first) → Dec (a .second < b .second) → Earlier a b
+    go : Dec (a .first < b .first) → Dec (a .first ≡ b .first) → Dec (a .second < b .second) → EarlierBond a b
     go (yes l) _ _ = inl l
     go (no l) (yes d) (yes m) = inr (d, m)
     go (no l) (yes d) (no m) = absurd (never (rw (le-ltb (a .first) (b .first) (omega arith), eq-eqb (a .first) (b .first) d, le-ltb (a .second) (b .second) (omega arith)) at e))
     go (no l) (no d) _ = absurd (never (rw (le-ltb (a .first) (b .first) (omega arith), ne-eqb (a .first) (b .first) d) at e))
 
-pub earlier-is : (a b : Bond) → Earlier a b → earlier a b ≡ true
+pub earlier-is : (a b : Bond) → EarlierBond a b → earlier a b ≡ true
 unfolding earlier
 earlier-is a b (inl l) = rw (lt-ltb (a .first) (b .first) l)
 earlier-is a b (inr h) = rw (le-ltb (a .first) (b .first) (omega (arith, h .0)), eq-eqb (a .first) (b .first) (h .0), lt-ltb (a .second) (b .second) (h .1))
 
-pub follows-earlier : (bond : ℕ → Bond) (k : ℕ) → follows bond (suc k) ≡ true → Earlier (bond k) (bond (suc k))
-unfolding follows
+pub follows-earlier : (bond : ℕ → Bond) (k : ℕ) → inOrder bond (suc k) ≡ true → EarlierBond (bond k) (bond (suc k))
+unfolding inOrder
 follows-earlier bond k f = let e : suc k - 1 ≡ k = omega arith in earlier-of (bond k) (bond (suc k)) (rw (ne-eqb (suc k) 0 (omega arith), e) at f)
 
-pub earlier-follows : (bond : ℕ → Bond) (k : ℕ) → Earlier (bond k) (bond (suc k)) → follows bond (suc k) ≡ true
-unfolding follows
+pub earlier-follows : (bond : ℕ → Bond) (k : ℕ) → EarlierBond (bond k) (bond (suc k)) → inOrder bond (suc k) ≡ true
+unfolding inOrder
 earlier-follows bond k h = let e : suc k - 1 ≡ k = omega arith in rw (ne-eqb (suc k) 0 (omega arith), e) (earlier-is (bond k) (bond (suc k)) h)
 
 -- what no fault at bond k says, and what says so
 pub record Right (n : ℕ) (bond : ℕ → Bond) (k : ℕ) : Type 0 where
   pub ordered : bond k .first < bond k .second
   pub below : bond k .second < n
-  pub after : follows bond k ≡ true
+  pub after : inOrder bond k ≡ true
   pub room-first : length (partners (bondsBelow bond k) (bond k .first)) < places
   pub room-second : length (partners (bondsBelow bond k) (bond k .second)) < places
 
 module _ (n : ℕ) (bond : ℕ → Bond) (k : ℕ) where
-  pub right-none : Right n bond k → bondFault n bond k ≡ 0
+  pub right-none : Right n bond k → fileBondFault n bond k ≡ 0
   right-none r =
       let l : bond k .first < n = omega (arith, r .ordered, r .below) in
       sym (fault-none n bond k _ _ refl refl l (r .below) (r .ordered) true (sym (r .after)) refl _ refl (r .room-first) _ refl (r .room-second))
 
-  pub right-of : bondFault n bond k ≡ 0 → Right n bond k
+  pub right-of : fileBondFault n bond k ≡ 0 → Right n bond k
   right-of z =
       let first-below : bond k .first < n = elim (decLe n (bond k .first)) [ yes h ↦ absurd (omega (arith, fault-first n bond k _ _ refl refl h)) | no h ↦ omega arith ] in
       let below : bond k .second < n = elim (decLe n (bond k .second)) [ yes h ↦ absurd (omega (arith, fault-second n bond k _ _ refl refl first-below h)) | no h ↦ omega arith ] in
       let ordered : bond k .first < bond k .second = elim (decLe (bond k .second) (bond k .first)) [ yes h ↦ absurd (omega (arith, fault-order n bond k _ _ refl refl first-below below h)) | no h ↦ omega arith ] in
-      let after : follows bond k ≡ true = comes first-below below ordered (follows bond k) refl in
+      let after : inOrder bond k ≡ true = comes first-below below ordered (inOrder bond k) refl in
       let room-first : length (partners (bondsBelow bond k) (bond k .first)) < places =
       elim (decLe places (length (partners (bondsBelow bond k) (bond k .first)))) [
         | yes h ↦ absurd (omega (arith, fault-ninth-first n bond k _ _ refl refl first-below below ordered true (sym after) refl _ refl h))
@@ -93,33 +93,33 @@ module _ (n : ℕ) (bond : ℕ → Bond) (k : ℕ) where
         ];
       }
     where
-      comes : bond k .first < n → bond k .second < n → bond k .first < bond k .second → (b : Bool) → b ≡ follows bond k → follows bond k ≡ true
+      comes : bond k .first < n → bond k .second < n → bond k .first < bond k .second → (b : Bool) → b ≡ inOrder bond k → inOrder bond k ≡ true
       comes f s o true e = sym e
       comes f s o false e = absurd (omega (arith, fault-after n bond k _ _ refl refl f s o false e refl))
 
 -- bonds without a fault
 module _ (n : ℕ) (bond : ℕ → Bond) (m : ℕ) (right : (k : ℕ) → k < m → Right n bond k) where
-  next : (k : ℕ) → suc k < m → Earlier (bond k) (bond (suc k))
+  next : (k : ℕ) → suc k < m → EarlierBond (bond k) (bond (suc k))
   next k l = follows-earlier bond k (right (suc k) l .after)
 
-  chain : (j k : ℕ) → j < k → k < m → Earlier (bond j) (bond k)
+  chain : (j k : ℕ) → j < k → k < m → EarlierBond (bond j) (bond k)
   chain j zero h l = absurd (omega arith)
   chain j (suc k) h l = go (ℕ-discrete j k) (chain j k)
     where
-      go : Dec (j ≡ k) → (j < k → k < m → Earlier (bond j) (bond k)) → Earlier (bond j) (bond (suc k))
+      go : Dec (j ≡ k) → (j < k → k < m → EarlierBond (bond j) (bond k)) → EarlierBond (bond j) (bond (suc k))
       go (yes e) ih = rw e (next k l)
       go (no e) ih = earlier-on (bond j) (bond k) (bond (suc k)) (ih (omega arith) (omega arith)) (next k l)
 
   pub numbered : (k : ℕ) {b : Bond} → b ∈ bondsBelow bond k → (j : ℕ) × (j < k) × (b ≡ bond j)
   numbered k h = let r = map-of bond (count k 0) h in (r .0, omega (arith, count-of k 0 (r .1) .1), r .2)
 
-  rises : (k : ℕ) → k ≤ m → Ascending Earlier (bondsBelow bond k)
+  rises : (k : ℕ) → k ≤ m → Ascending EarlierBond (bondsBelow bond k)
   rises zero h = tt
   rises (suc k) h =
-      subst (Ascending Earlier) (sym (rw add-one at (map-more bond k)))
-      (append-ascending Earlier (bondsBelow bond k) (bond k ∷ []) (rises k (omega arith)) (λ b q. absurd (List·Memᴰ·not-nil q), tt)
+      subst (Ascending EarlierBond) (sym (rw add-one at (map-more bond k)))
+      (append-ascending EarlierBond (bondsBelow bond k) (bond k ∷ []) (rises k (omega arith)) (λ b q. absurd (List·Memᴰ·not-nil q), tt)
       (λ a b p q. let r = numbered k p in
-      subst (λ (c : Bond). Earlier c b) (sym (r .2)) (subst (λ (c : Bond). Earlier (bond (r .0)) c) (sym (List·Memᴰ·eq-of-singleton q)) (chain (r .0) k (r .1) (omega arith)))))
+      subst (λ (c : Bond). EarlierBond c b) (sym (r .2)) (subst (λ (c : Bond). EarlierBond (bond (r .0)) c) (sym (List·Memᴰ·eq-of-singleton q)) (chain (r .0) k (r .1) (omega arith)))))
 
   rooms : (x k : ℕ) → k ≤ m → length (partners (bondsBelow bond k) x) ≤ places
   rooms x zero h = omega (arith, partners-start bond x)

@@ -17,7 +17,7 @@ use Rattle.network.specs.Chain.{Check, Sizes, Table, Accepted}
 use Rattle.network.proofs.Chains.{check-most, sizes-say, table-says}
 use Rattle.network.proofs.Networks.{network-of, accepted-of, verdict-kept, verdict-passed}
 use Rattle.bnw.specs.File.{Bond, fileOf, headOf, bondsOf, bondBytes, headLength, bondLength}
-use Rattle.bnw.specs.Writing.{writeVerdict, Writes}
+use Rattle.bnw.specs.Writing.{writeVerdict, WriteOutcome}
 use Rattle.graph.proofs.Lists.{sets-front}
 use Rattle.bnw.proofs.Runs.{sets-after}
 use Rattle.bnw.proofs.TableBonds.{bytes-length}
@@ -59,7 +59,7 @@ module _ (n : ℕ) (t : List ℕ) (a : Answer) (e : a ≡ verdict n t) (z : a .c
   few-words = omega (arith, few-atoms, network .whole)
 
 module _ (n : ℕ) (t before : List ℕ) (a : Answer) (e : a ≡ verdict n t) where
-  pub writes-refused : (a .code ≡ 0 → ⊥) → Writes n t before before (record { answer = a; bytes = 0 })
+  pub writes-refused : (a .code ≡ 0 → ⊥) → WriteOutcome n t before before (record { answer = a; bytes = 0 })
   writes-refused z = record {
     verdict = e ∙ refused-judged n t (length before) (λ h. z (ap code e ∙ h));
     refused = λ _. (refl, refl);
@@ -74,7 +74,7 @@ module _ (n : ℕ) (t before : List ℕ) (a : Answer) (e : a ≡ verdict n t) wh
     needed : headLength + bondLength * bonds ≡ length (fileOf n (bondsOf t))
     needed = omega (arith, file-length n (bondsOf t))
 
-    pub writes-short : (r : Answer) → r ≡ refusal 28 → length before < headLength + bondLength * bonds → Writes n t before before (record { answer = r; bytes = 0 })
+    pub writes-short : (r : Answer) → r ≡ refusal 28 → length before < headLength + bondLength * bonds → WriteOutcome n t before before (record { answer = r; bytes = 0 })
     writes-short r er h =
         let l : length before < length (fileOf n (bondsOf t)) = omega (arith, needed) in
         record {
@@ -92,7 +92,7 @@ module _ (n : ℕ) (t before : List ℕ) (a : Answer) (e : a ≡ verdict n t) wh
           ∙ sets-front before (headOf n bonds ++ gather bondBytes (bondsOf t)) (omega (arith, bytes-length (bondsOf t)))
           ∙ rw eb refl
 
-      pub writes-all : Writes n t before o (record { answer = a; bytes = headLength + bondLength * bonds })
+      pub writes-all : WriteOutcome n t before o (record { answer = a; bytes = headLength + bondLength * bonds })
       writes-all =
           let l : length (fileOf n (bondsOf t)) ≤ length before = omega (arith, needed) in
           record {

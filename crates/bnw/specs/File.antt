@@ -8,7 +8,7 @@
 --   bondBytes b               a bond: two unsigned 16-bit atoms
 --   headOf n bonds            the head: mark, version, atom count, bond count
 --   fileOf n bonds            the file: the head, then the bonds
---   Earlier a b               a comes before b: by the first atom and then the second
+--   EarlierBond a b               a comes before b: by the first atom and then the second
 --   partner x b               the other atom of a bond of x; none where x is not in the bond
 --   partners bonds x          the atoms bonded to x, in the order of the bonds
 --   ValidBonds n bonds        bonds as a file has them: smaller atom first, atoms below n, strictly ascending, at most 8 on an atom
@@ -57,8 +57,8 @@ headOf n bonds = mark ++ twoBytes version ++ twoBytes n ++ twoBytes bonds
 unfoldable pub fileOf : ℕ → List Bond → List ℕ
 fileOf n bonds = headOf n (length bonds) ++ gather bondBytes bonds
 
-abbrev pub Earlier : Bond → Bond → Type 0
-Earlier a b = (a .first < b .first) ⊎ ((a .first ≡ b .first) × (a .second < b .second))
+abbrev pub EarlierBond : Bond → Bond → Type 0
+EarlierBond a b = (a .first < b .first) ⊎ ((a .first ≡ b .first) × (a .second < b .second))
 
 unfoldable pub partner : ℕ → Bond → List ℕ
 partner x b = cond (eqb (b .first) x) (b .second ∷ []) (cond (eqb (b .second) x) (b .first ∷ []) [])
@@ -69,7 +69,7 @@ partners bonds x = gather (partner x) bonds
 pub record ValidBonds (n : ℕ) (bonds : List Bond) : Type 0 where
   pub ordered : (b : Bond) → b ∈ bonds → b .first < b .second
   pub below : (b : Bond) → b ∈ bonds → b .second < n
-  pub ascends : Ascending Earlier bonds
+  pub ascends : Ascending EarlierBond bonds
   pub eight : (x : ℕ) → length (partners bonds x) ≤ places
 
 unfoldable pub rowOf : List Bond → ℕ → List ℕ

@@ -2,14 +2,14 @@
 --
 --   Misplaced n bond k    26: an atom is not below n, the first is not below the second, or the bond is not after the previous one
 --   Ninth bond k          27: one of the bond's atoms has, among the bonds before it, as many as a row has places
---   NamesBond n bond m a  the answer a names the first of m bonds at fault: 26 where the bond has both, and none earlier has either
+--   NamesFirstBond n bond m a  the answer a names the first of m bonds at fault: 26 where the bond has both, and none earlier has either
 use mathlib.Core.Path.{_≡_}
 use mathlib.Core.Logic.{_⊎_}
 use Prim.Native.Nat.{ℕ, suc, _≤_, _<_}
 use lib.ListN.{length}
 use Rattle.network.specs.declared.Answer.{Answer}
 use Rattle.network.specs.Maxima.{places}
-use Rattle.bnw.specs.File.{Bond, Earlier, partners}
+use Rattle.bnw.specs.File.{Bond, EarlierBond, partners}
 use Rattle.bnw.specs.Reading.{bondsBelow}
 
 abbrev pub Misplaced : ℕ → (ℕ → Bond) → ℕ → Type 0
@@ -17,14 +17,14 @@ Misplaced n bond k =
     (n ≤ bond k .first)
     ⊎ (n ≤ bond k .second)
     ⊎ (bond k .second ≤ bond k .first)
-    ⊎ ((j : ℕ) × (suc j ≡ k) × (Earlier (bond j) (bond k) → ⊥))
+    ⊎ ((j : ℕ) × (suc j ≡ k) × (EarlierBond (bond j) (bond k) → ⊥))
 
 abbrev pub Ninth : (ℕ → Bond) → ℕ → Type 0
 Ninth bond k =
     (places ≤ length (partners (bondsBelow bond k) (bond k .first)))
     ⊎ (places ≤ length (partners (bondsBelow bond k) (bond k .second)))
 
-pub record NamesBond (n : ℕ) (bond : ℕ → Bond) (m : ℕ) (a : Answer) : Type 0 where
+pub record NamesFirstBond (n : ℕ) (bond : ℕ → Bond) (m : ℕ) (a : Answer) : Type 0 where
   pub row : a .row ≡ 0
   pub place : a .place < m
   pub there : ((a .code ≡ 26) × Misplaced n bond (a .place)) ⊎ ((a .code ≡ 27) × (Misplaced n bond (a .place) → ⊥) × Ninth bond (a .place))

@@ -4,23 +4,23 @@
 --   versionIn, atomsIn, bondsIn   the fields of the head: bytes 3 and 4, 5 and 6, 7 and 8
 --   Bytes file                    every element is a byte
 --   signed v                      a 16-bit field in two's complement
---   outside low high k            whether k is not from low to high
+--   outOfRange low high k         whether k is not from low to high
 --   marked file                   whether the file begins with the mark
 --   headFault file room           the first of 19 to 25, or 0, where the table lent has `room` words
 --   bondIn file k                 bond k of a file
 --   earlier a b                   whether bond a comes before bond b
 --   bondsBelow bond k             the bonds of number below k
 --   inside n b                    whether both atoms are below n, and the first is below the second
---   follows bond k                whether bond k comes after the previous one, if there is one
+--   inOrder bond k                whether bond k comes after the previous one, if there is one
 --   full bond k x                 whether x has, among the bonds of number below k, as many as a row has places
---   bondFault n bond k            26 or 27 at bond k, or 0
+--   fileBondFault n bond k        26 or 27 at bond k, or 0
 --   orAt c k later                fault c with place k; 0 is none, and what comes later decides
 --   firstBond fault m k           the first fault among the m bonds from k on
 --   readVerdict file room         19 to 25, then 26 and 27 bond by bond
 --   readValue file code           the signed value that goes with an answer: the count field at 22 and 23, otherwise 0
 --   ReadsAs file before after r   the file is that of r's atoms and some valid bonds, of r's number, and their table stands
 --                                 first in the table lent, of which the rest stays
---   Reads file before after r     what comes of reading: refused, nothing is changed and the counts are 0
+--   ReadOutcome file before after r     what comes of reading: refused, nothing is changed and the counts are 0
 use mathlib.Core.Path.{_≡_}
 use mathlib.Core.Bool.{Bool, true, cond, not, _&&_, _||_}
 use mathlib.Core.List.{List, _++_, map}
@@ -33,7 +33,7 @@ use Rattle.network.specs.declared.Answer.{Answer}
 use Rattle.network.specs.Maxima.{atomsMost, places}
 use Rattle.network.specs.Network.{Counted}
 use Rattle.network.specs.Verdict.{answer, accepted}
-use Rattle.bnw.specs.declared.Reading.{Reading}
+use Rattle.bnw.specs.declared.FileRead.{FileRead}
 use Rattle.bnw.specs.File.{Bond, mark, version, bondsMost, headLength, bondLength, fileOf, partners, ValidBonds, tableOf}
 
 abbrev pub field : List ℕ → ℕ → ℕ
@@ -54,9 +54,9 @@ Bytes file = (i : ℕ) → getD file i 0 < 256
 unfoldable pub signed : ℕ → ℤ
 signed v = cond (ltb v 32768) (pos v) (pos v -ℤ pos 65536)
 
-unfoldable pub outside : ℕ → ℕ → ℤ → Bool
-outside low high (pos v) = not (leb low v && leb v high)
-outside low high (negsuc v) = true
+unfoldable pub outOfRange : ℕ → ℕ → ℤ → Bool
+outOfRange low high (pos v) = not (leb low v && leb v high)
+outOfRange low high (negsuc v) = true
 
 unfoldable pub marked : List ℕ → Bool
 marked file = eqb (getD file 0 0) (getD mark 0 0) && eqb (getD file 1 0) (getD mark 1 0) && eqb (getD file 2 0) (getD mark 2 0)
@@ -66,8 +66,8 @@ headFault file room =
     cond (ltb (length file) headLength) 19
     (cond (not (marked file)) 20
     (cond (not (eqb (versionIn file) version)) 21
-    (cond (outside 1 atomsMost (signed (atomsIn file))) 22
-    (cond (outside 0 bondsMost (signed (bondsIn file))) 23
+    (cond (outOfRange 1 atomsMost (signed (atomsIn file))) 22
+    (cond (outOfRange 0 bondsMost (signed (bondsIn file))) 23
     (cond (not (eqb (length file) (headLength + bondLength * bondsIn file))) 24
     (cond (ltb room (places * atomsIn file)) 25
     0))))))
@@ -84,15 +84,15 @@ bondsBelow bond k = map bond (count k 0)
 unfoldable pub inside : ℕ → Bond → Bool
 inside n b = ltb (b .first) n && ltb (b .second) n && ltb (b .first) (b .second)
 
-unfoldable pub follows : (ℕ → Bond) → ℕ → Bool
-follows bond k = eqb k 0 || earlier (bond (k - 1)) (bond k)
+unfoldable pub inOrder : (ℕ → Bond) → ℕ → Bool
+inOrder bond k = eqb k 0 || earlier (bond (k - 1)) (bond k)
 
 unfoldable pub full : (ℕ → Bond) → ℕ → ℕ → Bool
 full bond k x = leb places (length (partners (bondsBelow bond k) x))
 
-unfoldable pub bondFault : ℕ → (ℕ → Bond) → ℕ → ℕ
-bondFault n bond k =
-    cond (not (inside n (bond k) && follows bond k)) 26
+unfoldable pub fileBondFault : ℕ → (ℕ → Bond) → ℕ → ℕ
+fileBondFault n bond k =
+    cond (not (inside n (bond k) && inOrder bond k)) 26
     (cond (full bond k (bond k .first) || full bond k (bond k .second)) 27
     0)
 
@@ -105,12 +105,12 @@ firstBond fault zero k = accepted
 firstBond fault (suc m) k = orAt (fault k) k (firstBond fault m (k + 1))
 
 unfoldable pub readVerdict : List ℕ → ℕ → Answer
-readVerdict file room = orAt (headFault file room) 0 (firstBond (bondFault (atomsIn file) (bondIn file)) (bondsIn file) 0)
+readVerdict file room = orAt (headFault file room) 0 (firstBond (fileBondFault (atomsIn file) (bondIn file)) (bondsIn file) 0)
 
 unfoldable pub readValue : List ℕ → ℕ → ℤ
 readValue file code = cond (eqb code 22) (signed (atomsIn file)) (cond (eqb code 23) (signed (bondsIn file)) (pos 0))
 
-pub record ReadsAs (file before after : List ℕ) (r : Reading) : Type 0 where
+pub record ReadsAs (file before after : List ℕ) (r : FileRead) : Type 0 where
   pub list : List Bond
   pub counted : Counted (r .atoms)
   pub valid : ValidBonds (r .atoms) list
@@ -118,7 +118,7 @@ pub record ReadsAs (file before after : List ℕ) (r : Reading) : Type 0 where
   pub number : r .bonds ≡ length list
   pub filled : after ≡ tableOf (r .atoms) list ++ drop (places * r .atoms) before
 
-pub record Reads (file before after : List ℕ) (r : Reading) : Type 0 where
+pub record ReadOutcome (file before after : List ℕ) (r : FileRead) : Type 0 where
   pub verdict : r .answer ≡ readVerdict file (length before)
   pub signs : r .value ≡ readValue file (r .answer .code)
   pub refused : (r .answer .code ≡ 0 → ⊥) → (r .atoms ≡ 0) × (r .bonds ≡ 0) × (after ≡ before)

@@ -25,7 +25,7 @@ pub const BONDS: usize = Network::ATOMS * Network::PLACES / 2;
 
 // What comes of reading: the answer, the counts of atoms and of bonds, and the count field that refusals 22 and 23 name.
 #[repr(C)]
-pub struct Reading {
+pub struct FileRead {
     pub answer: Answer,
     pub atoms: usize,
     pub bonds: usize,
@@ -34,7 +34,7 @@ pub struct Reading {
 
 // What comes of writing: the answer and the bytes written.
 #[repr(C)]
-pub struct Written {
+pub struct FileWritten {
     pub answer: Answer,
     pub bytes: usize,
 }

@@ -6,12 +6,12 @@ ghost use mathlib.Core.Path.{_≡_};
 ghost use Prim.Native.Nat.{suc, _+_, _*_, _≤_, _<_};
 ghost use lib.ListN.{length};
 ghost use Rattle.bnw.specs.File.{partner, partners, headLength, bondLength};
-ghost use Rattle.bnw.specs.Reading.{bondIn, bondsBelow, follows, bondFault, firstBond};
+ghost use Rattle.bnw.specs.Reading.{bondIn, bondsBelow, inOrder, fileBondFault, firstBond};
 
 // The first of refusals 26 and 27 among the bonds of a file.
 pub fn bond_faults(n: usize, file: &[u8], bonds: usize) -> Answer
     requires { ⌜ headLength + bondLength * bonds ≤ length (now file) ⌝ }
-    ensures { λ r. ⌜ r ≡ firstBond (bondFault n (bondIn (now (file .entry)))) bonds 0 ⌝ }
+    ensures { λ r. ⌜ r ≡ firstBond (fileBondFault n (bondIn (now (file .entry)))) bonds 0 ⌝ }
 {
     let mut k = 0;
     while k < bonds {
@@ -31,7 +31,7 @@ pub fn bond_faults(n: usize, file: &[u8], bonds: usize) -> Answer
 // Refusal 26 or 27 at bond k, or 0.
 fn bond_fault(n: usize, file: &[u8], k: usize) -> u8
     requires { ⌜ headLength + bondLength * suc k ≤ length (now file) ⌝ }
-    ensures { λ r. ⌜ r ≡ bondFault n (bondIn (now (file .entry))) k ⌝ }
+    ensures { λ r. ⌜ r ≡ fileBondFault n (bondIn (now (file .entry))) k ⌝ }
 {
     let first = first_atom(file, k);
     let second = second_atom(file, k);
@@ -75,7 +75,7 @@ pub fn second_atom(file: &[u8], k: usize) -> usize
 // Whether bond k comes after the previous one, if there is one.
 fn comes_after(file: &[u8], k: usize) -> bool
     requires { ⌜ headLength + bondLength * suc k ≤ length (now file) ⌝ }
-    ensures { λ r. ⌜ r ≡ follows (bondIn (now (file .entry))) k ⌝ }
+    ensures { λ r. ⌜ r ≡ inOrder (bondIn (now (file .entry))) k ⌝ }
 {
     if k == 0 {
         return true;

@@ -4,18 +4,18 @@ mod fields;
 mod head;
 mod rows;
 
-use bnw::Reading;
+use bnw::FileRead;
 use network::Answer;
-ghost use Rattle.bnw.specs.Reading.{Reads};
+ghost use Rattle.bnw.specs.Reading.{ReadOutcome};
 
-// Reads a file into the table lent, of which nothing is changed until the whole file is found right.
-pub fn read(file: &[u8], table: &mut [u16]) -> Reading
-    ensures { λ r. ⌜ Reads (now (file .entry)) (now (table .entry)) (now (table .exit)) r ⌝ }
+// ReadOutcome a file into the table lent, of which nothing is changed until the whole file is found right.
+pub fn read(file: &[u8], table: &mut [u16]) -> FileRead
+    ensures { λ r. ⌜ ReadOutcome (now (file .entry)) (now (table .entry)) (now (table .exit)) r ⌝ }
 {
     let code = head::head_fault(file, table.len());
     if code != 0 {
         let value = head::value_of(file, code);
-        return Reading {
+        return FileRead {
             answer: Answer::refused(code),
             atoms: 0,
             bonds: 0,
@@ -26,7 +26,7 @@ pub fn read(file: &[u8], table: &mut [u16]) -> Reading
     let bonds = fields::field(file, bnw::BONDS_AT);
     let answer = bonds::bond_faults(atoms, file, bonds);
     if answer.code != 0 {
-        return Reading {
+        return FileRead {
             answer: answer,
             atoms: 0,
             bonds: 0,
@@ -34,7 +34,7 @@ pub fn read(file: &[u8], table: &mut [u16]) -> Reading
         };
     }
     rows::fill_table(atoms, file, bonds, table);
-    Reading {
+    FileRead {
         answer: answer,
         atoms: atoms,
         bonds: bonds,

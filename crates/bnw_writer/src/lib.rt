@@ -2,17 +2,17 @@
 mod bytes;
 mod fields;
 
-use bnw::Written;
+use bnw::FileWritten;
 use network::Answer;
-ghost use Rattle.bnw.specs.Writing.{Writes};
+ghost use Rattle.bnw.specs.Writing.{WriteOutcome};
 
-// Writes the file of a network into the bytes lent.
-pub fn write(n: usize, table: &[u16], file: &mut [u8]) -> Written
-    ensures { λ r. ⌜ Writes n (now (table .entry)) (now (file .entry)) (now (file .exit)) r ⌝ }
+// WriteOutcome the file of a network into the bytes lent.
+pub fn write(n: usize, table: &[u16], file: &mut [u8]) -> FileWritten
+    ensures { λ r. ⌜ WriteOutcome n (now (table .entry)) (now (file .entry)) (now (file .exit)) r ⌝ }
 {
     let verdict = network::validate(n, table);
     if verdict.code != 0 {
-        return Written {
+        return FileWritten {
             answer: verdict,
             bytes: 0,
         };
@@ -20,14 +20,14 @@ pub fn write(n: usize, table: &[u16], file: &mut [u8]) -> Written
     let bonds = bytes::count_bonds(table);
     let length = bnw::HEAD + bnw::BOND * bonds;
     if file.len() < length {
-        return Written {
+        return FileWritten {
             answer: Answer::refused(28),
             bytes: 0,
         };
     }
     bytes::write_head(n, bonds, file);
     bytes::write_bonds(table, file);
-    Written {
+    FileWritten {
         answer: verdict,
         bytes: length,
     }

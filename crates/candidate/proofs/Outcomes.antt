@@ -16,16 +16,16 @@ use Rattle.network.specs.declared.Answer.{Answer}
 use Rattle.network.specs.Network.{Bonded}
 use Rattle.network.proofs.Bonds.{bonded-back}
 use Rattle.distance.specs.Distances.{DistanceTable}
-use Rattle.distance.specs.Outcome.{Outcome}
+use Rattle.distance.specs.Outcome.{DistancesOutcome}
 use Rattle.distance.proofs.Outcomes.{accepted-of-distance, table-unique}
 use Rattle.candidate.specs.declared.Shortest.{Shortest}
 use Rattle.candidate.specs.declared.Shortest.the-variants.{Yes, No, Refused}
 use Rattle.candidate.specs.declared.Tested.{Tested}
 use Rattle.ring.specs.Maxima.{ringLeast, ringMost}
-use Rattle.ring.specs.Writes.{padded, Writes}
+use Rattle.ring.specs.Writes.{padded, WritingPadded}
 use Rattle.ring.specs.CandidateVerdict.{candidateVerdict, AtomsBelow}
 use Rattle.candidate.specs.ShorterPairs.{shortAfter, shortPlace}
-use Rattle.candidate.specs.CandidateOutcome.{Values, values, Shorter, FirstPair, Says, CandidateOutcome}
+use Rattle.candidate.specs.CandidateOutcome.{Values, values, Shorter, FirstPair, RightValues, CandidateOutcome}
 use Rattle.ring.specs.RightCandidate.{RightCandidate}
 use Rattle.ring.proofs.CandidateVerdicts.{accepted-exactly, ring-atoms}
 use Rattle.candidate.proofs.Values.{number, alike, values-tell}
@@ -51,11 +51,11 @@ module _ (n : ℕ) (t r before : List ℕ) (a : Answer) (e : a ≡ candidateVerd
     pub passed-atoms : AtomsBelow n r
     passed-atoms = ring-atoms n t (passed .network) r (passed .ring) (passed .most)
 
-    module _ (after : List ℕ) (b : Answer) (o : Outcome n t before after b) where
+    module _ (after : List ℕ) (b : Answer) (o : DistancesOutcome n t before after b) where
       pub filled-table : DistanceTable n t after
       filled-table = o .filled (ap code (o .answer ∙ accepted-of-distance n t before (passed .network) (passed .room)))
 
-      out-with : (c : Tested) → c .answer ≡ a → Says t r (values (c .shortest)) (c .writing) → CandidateOutcome n t r before after c
+      out-with : (c : Tested) → c .answer ≡ a → RightValues t r (values (c .shortest)) (c .writing) → CandidateOutcome n t r before after c
       out-with c h s = record {
         answer = h ∙ e;
         refused = λ y. absurd (y (ap code h ∙ z));
@@ -67,7 +67,7 @@ module _ (n : ℕ) (t r before : List ℕ) (a : Answer) (e : a ≡ candidateVerd
           → x ≡ shortPlace n after r → x < length r → y ≡ shortAfter n after r x → CandidateOutcome n t r before after c
       out-no c x y h s w ex l ey = out-with c h (rw s (inr (refl, no-pair n t after filled-table r (passed .ring) passed-atoms x y ex l ey, w)))
 
-      pub out-yes : (c : Tested) (x : ℕ) → c .answer ≡ a → c .shortest ≡ Yes → Writes r (c .writing)
+      pub out-yes : (c : Tested) (x : ℕ) → c .answer ≡ a → c .shortest ≡ Yes → WritingPadded r (c .writing)
           → x ≡ shortPlace n after r → length r ≤ x → CandidateOutcome n t r before after c
       out-yes c x h s w ex l = out-with c h (rw s (inl (refl, refl, refl, yes-shortest n t after filled-table r (passed .ring) passed-atoms (passed .network) x ex l, w)))
 
@@ -91,11 +91,11 @@ first-unique Bad k i j x y P Q = (same-first, same-second)
     same-second = elim (decLt j y) [ yes l ↦ absurd (earlier i j x y P Q (inr (same-first, l))) | no l ↦ elim (decLt y j) [ yes m ↦ absurd (earlier x y i j Q P (inr (sym same-first, m))) | no m ↦ omega arith ] ]
 
 -- the words of a ring's one writing are unique, whichever reading of it is given
-pub writes-unique : (r s v w : List ℕ) → ringLeast ≤ length r → Reading 0 r s → Writes r v → Writes s w → v ≡ w
+pub writes-unique : (r s v w : List ℕ) → ringLeast ≤ length r → Reading 0 r s → WritingPadded r v → WritingPadded s w → v ≡ w
 writes-unique r s v w l R F G = F .filled ∙ ap padded (writing-unique r (F .writing) (G .writing) (F .reading) (reading-trans 0 r s (G .writing) R (G .reading)) (F .one) (G .one) l) ∙ sym (G .filled)
 
 -- what a candidate is told is unique
-says-unique : (t r : List ℕ) (a b : Values) (v w : List ℕ) → Says t r a v → Says t r b w → (a ≡ b) × (v ≡ w)
+says-unique : (t r : List ℕ) (a b : Values) (v w : List ℕ) → RightValues t r a v → RightValues t r b w → (a ≡ b) × (v ≡ w)
 says-unique t r a b v w (inl x) (inl y) = (
   alike a b (x .0 ∙ sym (y .0)) (x .1 ∙ sym (y .1)) (x .2 ∙ sym (y .2)),
   writes-unique r r v w (x .3 .ring .three) (reading-self 0 r (omega (arith, x .3 .ring .three))) (x .4) (y .4),
@@ -141,10 +141,10 @@ module _ (n : ℕ) (t r before after : List ℕ) (c : Tested) (C : CandidateOutc
         | no z ↦ absurd (omega (arith, ap number (ap values (sym e) ∙ C .refused z .1)))
       ]
 
-  yes-says : c .shortest ≡ Yes → ShortestPathRing (Bonded t) 0 r × Writes r (c .writing)
+  yes-says : c .shortest ≡ Yes → ShortestPathRing (Bonded t) 0 r × WritingPadded r (c .writing)
   yes-says e = go (C .says (yes-accepted e))
     where
-      go : Says t r (values (c .shortest)) (c .writing) → ShortestPathRing (Bonded t) 0 r × Writes r (c .writing)
+      go : RightValues t r (values (c .shortest)) (c .writing) → ShortestPathRing (Bonded t) 0 r × WritingPadded r (c .writing)
       go (inl h) = (h .3, h .4)
       go (inr h) = absurd (omega (arith, ap number (ap values (sym e)) ∙ h .0))
 
@@ -157,12 +157,12 @@ module _ (n : ℕ) (t r before after : List ℕ) (c : Tested) (C : CandidateOutc
   pub yes-exactly : (c .shortest ≡ Yes) ↔ (RightCandidate n t r before × ShortestPathRing (Bonded t) 0 r)
   yes-exactly = (λ e. (accepted-candidate (yes-accepted e), yes-says e .0), λ h. go (h .1) (C .says (candidate-accepted (h .0))))
     where
-      go : ShortestPathRing (Bonded t) 0 r → Says t r (values (c .shortest)) (c .writing) → c .shortest ≡ Yes
+      go : ShortestPathRing (Bonded t) 0 r → RightValues t r (values (c .shortest)) (c .writing) → c .shortest ≡ Yes
       go S (inl h) = values-tell (c .shortest) Yes (alike (values (c .shortest)) (values Yes) (h .0) (h .1) (h .2))
       go S (inr h) = absurd (not-both t r _ _ S (h .1))
 
   -- the words are the one writing: a reading of the candidate, and `OneWriting`
-  pub yes-writes : c .shortest ≡ Yes → Writes r (c .writing)
+  pub yes-writes : c .shortest ≡ Yes → WritingPadded r (c .writing)
   yes-writes e = yes-says e .1
 
 -- the same ring, given from any place in either direction, gets the same yes and the same words

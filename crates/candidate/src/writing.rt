@@ -4,12 +4,12 @@ ghost use mathlib.Core.Path.{_≡_};
 ghost use Prim.Native.Nat.{ℕ, _≤_, _<_};
 ghost use lib.ListN.{length, getD};
 ghost use Rattle.ring.specs.Maxima.{ringLeast, ringMost};
-ghost use Rattle.ring.specs.Writes.{Writes};
+ghost use Rattle.ring.specs.Writes.{WritingPadded};
 
 // The one writing of a ring of different atoms: the smallest first, and the second smaller than the last.
 pub fn one_writing(ring: &[u16]) -> Ring
     requires { ⌜ (ringLeast ≤ length (now ring)) × (length (now ring) ≤ ringMost) × ((i j : ℕ) → i < j → j < length (now ring) → getD (now ring) i 0 ≡ getD (now ring) j 0 → ⊥) ⌝ }
-    ensures { λ r. ⌜ Writes (now (ring .entry)) (r .atoms) ⌝ }
+    ensures { λ r. ⌜ WritingPadded (now (ring .entry)) (r .atoms) ⌝ }
 {
     let start = least_place(ring);
     let next = ring[(start + 1) % ring.len()];

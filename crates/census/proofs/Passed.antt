@@ -9,11 +9,10 @@ use native.Mathlib.Decide.{ℕ-discrete, decLe}
 use borrow.Author.Tests.{eq-eqb, ne-eqb, le-leb, lt-leb}
 use Rattle.network.specs.declared.Answer.{Answer}
 use Rattle.network.specs.Network.{Counted}
-use Rattle.network.specs.Verdict.{refusal, sizes, atomsOf, notAtoms}
+use Rattle.network.specs.Verdict.{refusal, sizes, atomsOrNone, notAtoms}
 use Rattle.network.proofs.Verdicts.{not-refused, atoms, no-atoms, some-atoms}
-use Rattle.distance.specs.Outcome.{distanceVerdict}
+use Rattle.distance.specs.Outcome.{distanceVerdict, DistancesOutcome}
 use Rattle.distance.proofs.Outcomes.{accepted-exactly}
-use Rattle.distance.specs.Outcome as distance
 use Rattle.ring.specs.Maxima.{ringLeast, ringMost, limitDefault, allowanceMost}
 use Rattle.census.specs.Census.{limitOf, notLimit, notAllowance, beforeSearch}
 use Rattle.census.specs.Prepared.{Prepared, Passed}
@@ -88,7 +87,7 @@ module _ (n : ℕ) (t : List ℕ) (limit allowance : ℕ) (d : List ℕ) where
     refused-with : (c : ℕ) → (c ≡ 0 → ⊥) → a ≡ refusal c → beforeSearch n t limit allowance d ≡ refusal c → Prepared n t limit allowance d d a
     refused-with c z h v = record { answer = h ∙ sym v; refused = λ _. refl; filled = λ y. absurd (z (ap code (sym h) ∙ y)) }
 
-    module _ (m : ℕ) (e : m ≡ atomsOf n) where
+    module _ (m : ℕ) (e : m ≡ atomsOrNone n) where
       pub prepared-1 : m ≡ 0 → a ≡ refusal 1 → Prepared n t limit allowance d d a
       prepared-1 z h = refused-with 1 (omega arith) h (before-1 (no-atoms n m e z))
 
@@ -109,7 +108,7 @@ module _ (n : ℕ) (t : List ℕ) (limit allowance : ℕ) (d : List ℕ) where
           pub prepared-3-high : allowanceMost < allowance → a ≡ refusal 3 → Prepared n t limit allowance d d a
           prepared-3-high l h = refused-with 3 (omega arith) h (before-3 (some-atoms n m e z) fits (allowance-high allowance l))
 
-          pub prepared-rest : (d′ : List ℕ) → 1 ≤ allowance → allowance ≤ allowanceMost → distance.Outcome n t d d′ a → Prepared n t limit allowance d d′ a
+          pub prepared-rest : (d′ : List ℕ) → 1 ≤ allowance → allowance ≤ allowanceMost → DistancesOutcome n t d d′ a → Prepared n t limit allowance d d′ a
           prepared-rest d′ l k o = record {
             answer = o .answer ∙ sym (before-rest (some-atoms n m e z) fits (allowance-right allowance l k));
             refused = o .refused;

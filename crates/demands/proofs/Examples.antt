@@ -16,7 +16,7 @@ use Rattle.network.specs.Network.{Bonded}
 use Rattle.network.specs.Verdict.{accepted}
 use Rattle.network.specs.Chain.{Check}
 use Rattle.network.proofs.Networks.{network-of}
-use Rattle.examples.specs.Examples.{Example, tableOf, byLength, examples}
+use Rattle.examples.specs.Examples.{Example, rowsTable, byLength, examples}
 use Rattle.examples.proofs.Examples.{examples-hold}
 use Rattle.examples.proofs.NearMisses.{near-misses-ruled-out}
 use Rattle.examples.proofs.Repeats.{repeats-ruled-out}
@@ -54,7 +54,7 @@ module _ (e : Example) (m : e ∈ examples) (allowance : ℕ) (d d′ l l′ : L
   n = length (e .rows)
 
   abbrev t : List ℕ
-  t = tableOf (e .rows)
+  t = rowsTable (e .rows)
 
   listing : RingListing (Bonded t) (limitOf (e .limit)) (e .rings)
   listing = subst (λ k. RingListing (Bonded t) k (e .rings)) (sym (limit-used e m)) (examples-hold e m .listing)

@@ -5,27 +5,26 @@ use Prim.Native.Nat.{ℕ, _*_}
 use lib.IntN.{negsuc}
 use Rattle.network.specs.Maxima.{places}
 use Rattle.network.specs.Verdict.{accepted, refusal}
-use Rattle.examples.specs.Examples.{P2}
-use Rattle.examples.specs.Examples
+use Rattle.examples.specs.Examples.{rowsTable, P2}
 use Rattle.bnw.specs.File.{fileOf, bondAt, bondsOf, partner, partners, rowOf, tableOf}
-use Rattle.bnw.specs.Reading.{signed, outside, marked, headFault, earlier, inside, follows, full, bondFault, bondIn, bondsBelow, orAt, firstBond, readVerdict, readValue}
+use Rattle.bnw.specs.Reading.{signed, outOfRange, marked, headFault, earlier, inside, inOrder, full, fileBondFault, bondIn, bondsBelow, orAt, firstBond, readVerdict, readValue}
 
 -- "BNW", version 1, so many atoms, nine bonds
 abbrev pub file : ℕ → ℕ → List ℕ
 file low high = 66 ∷ 78 ∷ 87 ∷ 1 ∷ 0 ∷ low ∷ high ∷ 9 ∷ 0 ∷ 0 ∷ 0 ∷ 1 ∷ 0 ∷ 0 ∷ 0 ∷ 4 ∷ 0 ∷ 1 ∷ 0 ∷ 2 ∷ 0 ∷ 1 ∷ 0 ∷ 3 ∷ 0 ∷ 2 ∷ 0 ∷ 5 ∷ 0 ∷ 3 ∷ 0 ∷ 5 ∷ 0 ∷ 3 ∷ 0 ∷ 6 ∷ 0 ∷ 4 ∷ 0 ∷ 5 ∷ 0 ∷ 5 ∷ 0 ∷ 6 ∷ 0 ∷ []
 
-pub figure-1-written : fileOf 7 (bondsOf (Rattle.examples.specs.Examples.tableOf (P2 .rows))) ≡ file 7 0
+pub figure-1-written : fileOf 7 (bondsOf (rowsTable (P2 .rows))) ≡ file 7 0
 unfolding fileOf bondsOf bondAt
 figure-1-written = refl
 
 pub figure-1-accepted : readVerdict (file 7 0) (places * 7) ≡ accepted
-unfolding readVerdict headFault marked outside signed bondFault inside follows earlier full partners partner orAt firstBond
+unfolding readVerdict headFault marked outOfRange signed fileBondFault inside inOrder earlier full partners partner orAt firstBond
 figure-1-accepted = refl
 
-pub figure-1-read : tableOf 7 (bondsBelow (bondIn (file 7 0)) 9) ≡ Rattle.examples.specs.Examples.tableOf (P2 .rows)
+pub figure-1-read : tableOf 7 (bondsBelow (bondIn (file 7 0)) 9) ≡ rowsTable (P2 .rows)
 unfolding tableOf rowOf partners partner
 figure-1-read = refl
 
 pub count-negative : (readVerdict (file 255 255) (places * 7) ≡ refusal 22) × (readValue (file 255 255) 22 ≡ negsuc 0)
-unfolding readVerdict headFault marked outside signed orAt readValue
+unfolding readVerdict headFault marked outOfRange signed orAt readValue
 count-negative = (refl, refl)

@@ -10,13 +10,12 @@ use Rattle.network.specs.declared.Answer.{Answer}
 use Rattle.network.specs.Network.{Bonded, IsNetwork}
 use Rattle.network.specs.Verdict.{accepted, refusal}
 use Rattle.network.proofs.Networks.{network-of}
-use Rattle.examples.specs.Examples.{ExampleHolds, P2}
-use Rattle.examples.specs.Examples as examples
+use Rattle.examples.specs.Examples.{rowsTable, ExampleHolds, P2}
 use Rattle.examples.proofs.Examples.{examples-hold}
 use Rattle.census.specs.Census.{encodeBy, countsBy}
 use Rattle.census.proofs.Passed.{limit-default}
-use Rattle.bnw.specs.File.{bondAt, bondsOf, partner, partners, tableOf}
-use Rattle.bnw.specs.Reading.{signed, outside, marked, headFault, earlier, inside, follows, full, bondFault, orAt, firstBond, readVerdict}
+use Rattle.bnw.specs.File.{bondAt, bondsOf, partner, partners}
+use Rattle.bnw.specs.Reading.{signed, outOfRange, marked, headFault, earlier, inside, inOrder, full, fileBondFault, orAt, firstBond, readVerdict}
 use Rattle.bnw.proofs.Returns.{bonds-valid, table-back}
 use Rattle.text.specs.Letters.{letters}
 use Rattle.text.specs.Lines.{digits, sizesText, ringText, countText, countsText, totalText, refusalText}
@@ -28,7 +27,7 @@ abbrev nineLines : List ℕ
 nineLines = letters "atoms 7 bonds 9\nring 3 3 5 6\nring 4 1 2 5 3\nring 5 0 1 2 5 4\nring 5 0 1 3 5 4\ncount 3 1\ncount 4 1\ncount 5 2\ntotal 4\n"
 
 abbrev table : List ℕ
-table = examples.tableOf (P2 .rows)
+table = rowsTable (P2 .rows)
 
 holds : ExampleHolds P2
 holds = examples-hold P2 (List·Memᴰ·tail (List·Memᴰ·head refl))
@@ -37,7 +36,7 @@ network : IsNetwork 7 table
 network = network-of 7 table (ap (λ (a : Answer). a .code) (holds .is-accepted))
 
 figure-accepted : readVerdict (file 7 0) tableWords ≡ accepted
-unfolding readVerdict headFault marked outside signed bondFault inside follows earlier full partners partner orAt firstBond
+unfolding readVerdict headFault marked outOfRange signed fileBondFault inside inOrder earlier full partners partner orAt firstBond
 figure-accepted = refl
 
 figure-listing : ListingText 7 (length (bondsOf table)) table nineLines
@@ -62,7 +61,7 @@ figure-text = record {
 }
 
 negative-refused : readVerdict (file 255 255) tableWords ≡ refusal 22
-unfolding readVerdict headFault marked outside signed orAt
+unfolding readVerdict headFault marked outOfRange signed orAt
 negative-refused = refl
 
 pub negative-text : FileText (file 255 255) (letters "refused 22 0 0\n")

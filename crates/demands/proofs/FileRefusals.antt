@@ -14,7 +14,7 @@ use Rattle.network.specs.Maxima.{atomsMost, places}
 use Rattle.network.specs.Chain.{Answers, Check, Accepted}
 use Rattle.network.proofs.Chains.{in-range, range-true, range-false}
 use Rattle.bnw.specs.File.{Bond, mark, version, bondsMost, headLength, bondLength}
-use Rattle.bnw.specs.Reading.{versionIn, atomsIn, bondsIn, signed, outside, marked, headFault, bondIn, bondFault, orAt, firstBond, readVerdict}
+use Rattle.bnw.specs.Reading.{versionIn, atomsIn, bondsIn, signed, outOfRange, marked, headFault, bondIn, fileBondFault, orAt, firstBond, readVerdict}
 use Rattle.bnw.proofs.Valid.{scan-clean, clean-scan}
 use Rattle.bnw.proofs.FirstBonds.{fault-clean, names-first}
 use Rattle.bnw.proofs.BondFaults.{given}
@@ -55,26 +55,26 @@ module _ (low high : ℕ) where
   within (pos v) = in-range low high v
   within (negsuc v) = no (λ h. h)
 
-  within-passes : (k : ℤ) → Within low high k → outside low high k ≡ false
-  unfolding outside
+  within-passes : (k : ℤ) → Within low high k → outOfRange low high k ≡ false
+  unfolding outOfRange
   within-passes (pos v) h = ap not (range-true low high v h)
   within-passes (negsuc v) h = absurd h
 
-  within-fails : (k : ℤ) → (Within low high k → ⊥) → outside low high k ≡ true
-  unfolding outside
+  within-fails : (k : ℤ) → (Within low high k → ⊥) → outOfRange low high k ≡ true
+  unfolding outOfRange
   within-fails (pos v) h = ap not (range-false low high v h)
   within-fails (negsuc v) h = refl
 
 -- the bonds
-bonds-say : (n : ℕ) (bond : ℕ → Bond) (m : ℕ) → Bonds n bond m Accepted (firstBond (bondFault n bond) m 0)
+bonds-say : (n : ℕ) (bond : ℕ → Bond) (m : ℕ) → Bonds n bond m Accepted (firstBond (fileBondFault n bond) m 0)
 unfolding Bonds
-bonds-say n bond m = go (ℕ-discrete (firstBond (bondFault n bond) m 0 .code) 0)
+bonds-say n bond m = go (ℕ-discrete (firstBond (fileBondFault n bond) m 0 .code) 0)
   where
-    go : Dec (firstBond (bondFault n bond) m 0 .code ≡ 0) → Bonds n bond m Accepted (firstBond (bondFault n bond) m 0)
+    go : Dec (firstBond (fileBondFault n bond) m 0 .code ≡ 0) → Bonds n bond m Accepted (firstBond (fileBondFault n bond) m 0)
     go (no z) = inl (names-first n bond m z)
     go (yes z) =
-        let clean : (k : ℕ) → 0 ≤ k → k < 0 + m → bondFault n bond k ≡ 0 = scan-clean (bondFault n bond) m 0 z in
-        inr (λ k l. fault-clean n bond k (clean k (omega arith) (omega arith)), clean-scan (bondFault n bond) m 0 clean)
+        let clean : (k : ℕ) → 0 ≤ k → k < 0 + m → fileBondFault n bond k ≡ 0 = scan-clean (fileBondFault n bond) m 0 z in
+        inr (λ k l. fault-clean n bond k (clean k (omega arith) (omega arith)), clean-scan (fileBondFault n bond) m 0 clean)
 
 -- no fault in the head
 no-fault : (a : Answer) → a ≡ orAt 0 0 a
@@ -91,4 +91,4 @@ read-says file table =
     head-says 23 (omega arith) _ _ _ (Within 0 bondsMost (signed (bondsIn file))) _ (within 0 bondsMost (signed (bondsIn file))) (within-passes 0 bondsMost (signed (bondsIn file))) (within-fails 0 bondsMost (signed (bondsIn file))) λ _.
     head-says 24 (omega arith) _ _ _ (length file ≡ headLength + bondLength * bondsIn file) _ (ℕ-discrete (length file) (headLength + bondLength * bondsIn file)) (λ e. ap not (eq-eqb (length file) (headLength + bondLength * bondsIn file) e)) (λ e. ap not (ne-eqb (length file) (headLength + bondLength * bondsIn file) e)) λ _.
     head-says 25 (omega arith) _ _ _ (places * atomsIn file ≤ length table) _ (decLe (places * atomsIn file) (length table)) (le-ltb (length table) (places * atomsIn file)) (λ h. lt-ltb (length table) (places * atomsIn file) (omega arith)) λ _.
-    subst (Bonds (atomsIn file) (bondIn file) (bondsIn file) Accepted) (no-fault (firstBond (bondFault (atomsIn file) (bondIn file)) (bondsIn file) 0)) (bonds-say (atomsIn file) (bondIn file) (bondsIn file))
+    subst (Bonds (atomsIn file) (bondIn file) (bondsIn file) Accepted) (no-fault (firstBond (fileBondFault (atomsIn file) (bondIn file)) (bondsIn file) 0)) (bonds-say (atomsIn file) (bondIn file) (bondsIn file))

@@ -7,7 +7,7 @@ pub mod FileRefusals
 pub mod Meets
 pub mod OneListing
 pub mod SameRings
-pub mod ThereAndBack
+pub mod FilesReturn
 pub mod OneOutcome
 pub mod Examples
 pub mod FigureFile

@@ -7,7 +7,7 @@ use lib.ListN.{length}
 use Rattle.network.specs.declared.Answer.{Answer}
 use Rattle.network.specs.Verdict.{verdict}
 use Rattle.network.proofs.Networks.{network-of, verdict-says}
-use Rattle.distance.specs.Outcome as distance
+use Rattle.distance.specs.Outcome.{DistancesOutcome}
 use Rattle.distance.proofs.Outcomes.{distances-says}
 use Rattle.ring.proofs.FirstPlaces.{candidate-says}
 use Rattle.candidate.specs.declared.Tested.{Tested}
@@ -15,12 +15,12 @@ use Rattle.candidate.specs.CandidateOutcome.{CandidateOutcome}
 use Rattle.census.specs.declared.Census.{Census}
 use Rattle.census.specs.Census.{CountOutcome, ListOutcome}
 use Rattle.census.proofs.Settled.{reached}
-use Rattle.renumber.specs.Outcome as renumber
+use Rattle.renumber.specs.Outcome.{RenumberOutcome}
 use Rattle.renumber.proofs.Outcomes.{renumber-says}
-use Rattle.bnw.specs.declared.Reading.{Reading}
-use Rattle.bnw.specs.declared.Written.{Written}
-use Rattle.bnw.specs.Reading.{atomsIn, bondsIn, Reads}
-use Rattle.bnw.specs.Writing.{Writes}
+use Rattle.bnw.specs.declared.FileRead.{FileRead}
+use Rattle.bnw.specs.declared.FileWritten.{FileWritten}
+use Rattle.bnw.specs.Reading.{atomsIn, bondsIn, ReadOutcome}
+use Rattle.bnw.specs.Writing.{WriteOutcome}
 use Rattle.bnw.proofs.Writings.{write-says}
 use Rattle.bnw.proofs.HeadFaults.{value-22, value-23, value-else}
 use Rattle.demands.specs.Refusals.{ValidateSays, DistancesSays, CandidateSays, RenumberSays, WriteSays}
@@ -38,7 +38,7 @@ module _ (n : ℕ) (t : List ℕ) where
     done = λ z. network-of n t (ap (λ (x : Answer). x .code) (sym h) ∙ z);
   }
 
-  pub distances-met : (dist dist′ : List ℕ) (a : Answer) → distance.Outcome n t dist dist′ a → DistancesMet n t dist dist′ a
+  pub distances-met : (dist dist′ : List ℕ) (a : Answer) → DistancesOutcome n t dist dist′ a → DistancesMet n t dist dist′ a
   distances-met dist dist′ a h = record {
     gives = subst (DistancesSays n t dist) (sym (h .answer)) (distances-says n t dist);
     refused = h .refused;
@@ -67,21 +67,21 @@ module _ (n : ℕ) (t : List ℕ) where
       done = λ z. (reached (h .census) z .filled, accepted-listing n t limit allowance dist dist′ list list′ c h z);
     }
 
-  pub renumber-met : (names renamed renamed′ : List ℕ) (a : Answer) → renumber.Outcome n t names renamed renamed′ a → RenumberMet n t names renamed renamed′ a
+  pub renumber-met : (names renamed renamed′ : List ℕ) (a : Answer) → RenumberOutcome n t names renamed renamed′ a → RenumberMet n t names renamed renamed′ a
   renumber-met names renamed renamed′ a h = record {
     gives = subst (RenumberSays n t names renamed) (sym (h .answer)) (renumber-says n t names renamed);
     refused = h .refused;
     done = h .renumbered;
   }
 
-  pub write-met : (file file′ : List ℕ) (w : Written) → Writes n t file file′ w → WriteMet n t file file′ w
+  pub write-met : (file file′ : List ℕ) (w : FileWritten) → WriteOutcome n t file file′ w → WriteMet n t file file′ w
   write-met file file′ w h = record {
     gives = subst (WriteSays n t file) (sym (h .verdict)) (write-says n t (length file));
     refused = h .refused;
     done = λ z. (h .number z, h .written z);
   }
 
-pub read-met : (file table table′ : List ℕ) (r : Reading) → Reads file table table′ r → ReadMet file table table′ r
+pub read-met : (file table table′ : List ℕ) (r : FileRead) → ReadOutcome file table table′ r → ReadMet file table table′ r
 read-met file table table′ r h = record {
   gives = subst (ReadSays file table) (sym (h .verdict)) (read-says file table);
   refused = λ z. record {

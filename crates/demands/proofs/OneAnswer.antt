@@ -11,7 +11,7 @@ use Rattle.network.proofs.FirstFaults.{same-place, same-answer}
 use Rattle.network.proofs.Chains.{one-link}
 use Rattle.census.specs.Census.{limitOf}
 use Rattle.bnw.specs.File.{Bond}
-use Rattle.bnw.specs.FirstBond.{Misplaced, Ninth, NamesBond}
+use Rattle.bnw.specs.FirstBond.{Misplaced, Ninth, NamesFirstBond}
 use Rattle.demands.specs.Refusals.{OfRings}
 use Rattle.demands.specs.FileRefusals.{Bonds}
 
@@ -21,10 +21,10 @@ one-of-rings t limit Later one a b h k =
 
 -- the first fault of a file's bonds
 module _ (n : ℕ) (bond : ℕ → Bond) (m : ℕ) where
-  at-fault : (a : Answer) → NamesBond n bond m a → (Misplaced n bond (a .place) → ⊥) × (Ninth bond (a .place) → ⊥) → ⊥
+  at-fault : (a : Answer) → NamesFirstBond n bond m a → (Misplaced n bond (a .place) → ⊥) × (Ninth bond (a .place) → ⊥) → ⊥
   at-fault a h none = elim (h .there) [ inl f ↦ none .0 (f .1) | inr f ↦ none .1 (f .2) ]
 
-  one-fault : OneAnswer (NamesBond n bond m)
+  one-fault : OneAnswer (NamesFirstBond n bond m)
   one-fault a b h k = same-answer a b (number (h .there) (k .there)) (h .row ∙ sym (k .row)) at
     where
       at : a .place ≡ b .place
@@ -39,4 +39,4 @@ module _ (n : ℕ) (bond : ℕ → Bond) (m : ℕ) where
 
   pub one-bonds : (Later : Answers) → OneAnswer Later → OneAnswer (Bonds n bond m Later)
   unfolding Bonds
-  one-bonds Later = one-link (NamesBond n bond m) ((k : ℕ) → k < m → (Misplaced n bond k → ⊥) × (Ninth bond k → ⊥)) Later one-fault (λ a h none. at-fault a h (none (a .place) (h .place)))
+  one-bonds Later = one-link (NamesFirstBond n bond m) ((k : ℕ) → k < m → (Misplaced n bond k → ⊥) × (Ninth bond k → ⊥)) Later one-fault (λ a h none. at-fault a h (none (a .place) (h .place)))

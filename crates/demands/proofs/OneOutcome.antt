@@ -9,7 +9,7 @@ use lib.ListN.{length}
 use Rattle.network.specs.declared.Answer.{Answer}
 use Rattle.network.specs.Chain.{Answers, OneAnswer}
 use Rattle.network.proofs.Chains.{one-accepted, one-check, one-places, one-table}
-use Rattle.distance.specs.Outcome as distance
+use Rattle.distance.specs.Outcome.{DistancesOutcome}
 use Rattle.distance.proofs.Outcomes.{distances-says, table-unique}
 use Rattle.distance.proofs.Outcomes as distance-proofs
 use Rattle.ring.proofs.FirstPlaces.{candidate-says}
@@ -18,13 +18,13 @@ use Rattle.candidate.specs.CandidateOutcome.{CandidateOutcome}
 use Rattle.candidate.proofs.Outcomes as candidate
 use Rattle.census.specs.declared.Census.{Census}
 use Rattle.census.specs.Census.{noCensus}
-use Rattle.renumber.specs.Outcome as renumber
+use Rattle.renumber.specs.Outcome.{RenumberOutcome}
 use Rattle.renumber.proofs.Outcomes.{renumber-says}
 use Rattle.renumber.proofs.OneOutcome.{one-outcome}
-use Rattle.bnw.specs.declared.Reading.{Reading}
-use Rattle.bnw.specs.declared.Written.{Written}
-use Rattle.bnw.specs.Reading.{atomsIn, bondsIn, readValue, Reads}
-use Rattle.bnw.specs.Writing.{Writes}
+use Rattle.bnw.specs.declared.FileRead.{FileRead}
+use Rattle.bnw.specs.declared.FileWritten.{FileWritten}
+use Rattle.bnw.specs.Reading.{atomsIn, bondsIn, readValue, ReadOutcome}
+use Rattle.bnw.specs.Writing.{WriteOutcome}
 use Rattle.bnw.proofs.Writings.{write-says}
 use Rattle.bnw.proofs.HeadFaults.{value-22, value-23, value-else}
 use Rattle.bnw.proofs.RoundTrips.{reads-one, writes-one}
@@ -68,7 +68,7 @@ distances-fixed n t dist = record { answer = only; outcome = λ o p M N. both o 
     only : OneAnswer (DistancesSays n t dist)
     only = one-check _ _ _ (one-check _ _ _ (one-check _ _ _ (one-table n t _ one-accepted)))
 
-    contract : (dist′ : List ℕ) (a : Answer) → DistancesMet n t dist dist′ a → distance.Outcome n t dist dist′ a
+    contract : (dist′ : List ℕ) (a : Answer) → DistancesMet n t dist dist′ a → DistancesOutcome n t dist dist′ a
     contract dist′ a M = record { answer = only a _ (M .gives) (distances-says n t dist); refused = M .refused; filled = M .done }
 
 pub candidate-fixed : CandidateFixed
@@ -86,7 +86,7 @@ renumber-fixed n t names renamed = record { answer = only; outcome = λ o p M N.
     only : OneAnswer (RenumberSays n t names renamed)
     only = one-check _ _ _ (one-check _ _ _ (one-check _ _ _ (one-table n t _ (one-places _ _ _ _ one-accepted))))
 
-    contract : (renamed′ : List ℕ) (a : Answer) → RenumberMet n t names renamed renamed′ a → renumber.Outcome n t names renamed renamed′ a
+    contract : (renamed′ : List ℕ) (a : Answer) → RenumberMet n t names renamed renamed′ a → RenumberOutcome n t names renamed renamed′ a
     contract renamed′ a M = record { answer = only a _ (M .gives) (renumber-says n t names renamed); refused = M .refused; renumbered = M .done }
 
 pub write-fixed : WriteFixed
@@ -95,11 +95,11 @@ write-fixed n t file = record { answer = only; outcome = λ o p M N. both o p (w
     only : OneAnswer (WriteSays n t file)
     only = one-check _ _ _ (one-check _ _ _ (one-table n t _ (one-check _ _ _ one-accepted)))
 
-    contract : (file′ : List ℕ) (w : Written) → WriteMet n t file file′ w → Writes n t file file′ w
+    contract : (file′ : List ℕ) (w : FileWritten) → WriteMet n t file file′ w → WriteOutcome n t file file′ w
     contract file′ w M = record { verdict = only (w .answer) _ (M .gives) (write-says n t (length file)); refused = M .refused; number = λ z. M .done z .0; written = λ z. M .done z .1 }
 
 -- the value that goes with an answer of the reader
-value-met : (file table table′ : List ℕ) (r : Reading) → ReadMet file table table′ r → r .value ≡ readValue file (r .answer .code)
+value-met : (file table table′ : List ℕ) (r : FileRead) → ReadMet file table table′ r → r .value ≡ readValue file (r .answer .code)
 value-met file table table′ r M = signs (ℕ-discrete (r .answer .code) 0) (ℕ-discrete (r .answer .code) 22) (ℕ-discrete (r .answer .code) 23)
   where
     signs : Dec (r .answer .code ≡ 0) → Dec (r .answer .code ≡ 22) → Dec (r .answer .code ≡ 23) → r .value ≡ readValue file (r .answer .code)
@@ -114,7 +114,7 @@ read-fixed file table = record { answer = only; outcome = λ o p M N. both o p (
     only : OneAnswer (ReadSays file table)
     only = one-check _ _ _ (one-check _ _ _ (one-check _ _ _ (one-check _ _ _ (one-check _ _ _ (one-check _ _ _ (one-check _ _ _ (one-bonds _ _ _ _ one-accepted)))))))
 
-    contract : (table′ : List ℕ) (r : Reading) → ReadMet file table table′ r → Reads file table table′ r
+    contract : (table′ : List ℕ) (r : FileRead) → ReadMet file table table′ r → ReadOutcome file table table′ r
     contract table′ r M = record {
       verdict = only (r .answer) _ (M .gives) (read-says file table);
       signs = value-met file table table′ r M;

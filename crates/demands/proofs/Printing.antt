@@ -9,8 +9,8 @@ use Rattle.network.specs.Maxima.{places}
 use Rattle.network.specs.Network.{IsNetwork}
 use Rattle.census.specs.declared.Census.{Census}
 use Rattle.census.specs.Census.{encode}
-use Rattle.bnw.specs.declared.Reading.{Reading}
-use Rattle.bnw.specs.Reading.{Reads}
+use Rattle.bnw.specs.declared.FileRead.{FileRead}
+use Rattle.bnw.specs.Reading.{ReadOutcome}
 use Rattle.bnw.proofs.RoundTrips.{read-network}
 use Rattle.text.specs.Lines.{listingText, refusalText}
 use Rattle.report.specs.Report.{tableWords, FileText, Responds}
@@ -20,7 +20,7 @@ use Rattle.report.proofs.OneText.{file-text-one, responds-one, enough-is-read}
 use Rattle.demands.specs.Program.{ReadingPrinted, RespondMet, RespondFixed}
 use Rattle.demands.proofs.Searches.{lists-rings}
 
-module _ (file text : List ℕ) (F : FileText file text) (table table′ : List ℕ) (r : Reading) (R : Reads file table table′ r) (room-read : length table ≡ tableWords) where
+module _ (file text : List ℕ) (F : FileText file text) (table table′ : List ℕ) (r : FileRead) (R : ReadOutcome file table table′ r) (room-read : length table ≡ tableWords) where
   -- the file's text is any that reading and listing give
   same : (other : List ℕ) → FileText file other → text ≡ other
   same other G = file-text-one file text other F G

@@ -9,7 +9,7 @@ use Rattle.graph.specs.Counts.{ofLength, lengthsOf}
 use Rattle.graph.specs.Listing.{RingListing}
 use Rattle.network.specs.declared.Answer.{Answer}
 use Rattle.network.specs.Network.{Bonded, IsNetwork}
-use Rattle.renumber.specs.Outcome as renumber
+use Rattle.renumber.specs.Outcome.{RenumberOutcome}
 use Rattle.renumber.specs.Carried.{RingsRenumbered}
 use Rattle.renumber.proofs.Outcomes.{accepts}
 use Rattle.renumber.proofs.Carried.{call-carries}
@@ -17,7 +17,7 @@ use Rattle.ring.specs.Maxima.{ringMost}
 use Rattle.census.specs.declared.Census.{Census}
 use Rattle.census.specs.Census.{limitOf, beforeSearch, encode, countsBy, countsOf, noCensus, settled, afterCount, afterList, Searched, CensusOutcome, CountOutcome, ListOutcome}
 use Rattle.census.proofs.Settled.{code, encode-words}
-use Rattle.demands.specs.declared.renumbering.HereAndThere.{HereAndThere}
+use Rattle.demands.specs.declared.HereAndThere.{HereAndThere}
 use Rattle.demands.specs.Renumbering.{RenumberThenList, RenumberThenCount}
 use Rattle.demands.proofs.Searches.{before-network, lists-rings}
 use Rattle.demands.proofs.Meets.{count-met, list-met, renumber-met}
@@ -35,7 +35,7 @@ module _ (xs ys : List (List ℕ)) (each : (k : ℕ) → ofLength k xs ≡ ofLen
   same-settled : (n limit : ℕ) (a b : Answer) → a ≡ b → settled n limit a xs ≡ settled n limit b ys
   same-settled n limit a b e = rw (e, same-counts, all, lengths, words)
 
-module _ (n : ℕ) (t names before after : List ℕ) (a : Answer) (R : renumber.Outcome n t names before after a) (z : a .code ≡ 0) where
+module _ (n : ℕ) (t names before after : List ℕ) (a : Answer) (R : RenumberOutcome n t names before after a) (z : a .code ≡ 0) where
   given : IsNetwork n t
   given = accepts n t names before .0 (ap (λ (x : Answer). x .code) (sym (R .answer)) ∙ z) .0
 
@@ -60,7 +60,7 @@ module _ (n : ℕ) (t names before after : List ℕ) (a : Answer) (R : renumber.
           | no y ↦ O .refused y .0 ∙ ap noCensus checks ∙ sym (P .refused (λ w. y (ap (λ (x : Answer). x .code) checks ∙ w)) .0)
         ]
 
-pub renumber-then-count : (n : ℕ) (t names renamed renamed′ : List ℕ) (limit allowance : ℕ) (d d′ e e′ : List ℕ) (r : HereAndThere) → renumber.Outcome n t names renamed renamed′ (r .renumbering)
+pub renumber-then-count : (n : ℕ) (t names renamed renamed′ : List ℕ) (limit allowance : ℕ) (d d′ e e′ : List ℕ) (r : HereAndThere) → RenumberOutcome n t names renamed renamed′ (r .renumbering)
     → CountOutcome n t limit allowance d d′ (r .here) → CountOutcome n renamed′ limit allowance e e′ (r .there) → RenumberThenCount n t names renamed renamed′ limit allowance d d′ e e′ r
 renumber-then-count n t names renamed renamed′ limit allowance d d′ e e′ r R O P = record {
   renumbered = renumber-met n t names renamed renamed′ (r .renumbering) R;
@@ -69,7 +69,7 @@ renumber-then-count n t names renamed renamed′ limit allowance d d′ e e′ r
   census = λ z same. same-census n t names renamed renamed′ (r .renumbering) R z limit allowance d d′ e e′ (r .here) (r .there) same (afterCount allowance) (afterCount allowance) (λ xs ys all words. rw all refl) O P;
 }
 
-pub renumber-then-list : (n : ℕ) (t names renamed renamed′ : List ℕ) (limit allowance : ℕ) (d d′ l l′ e e′ m m′ : List ℕ) (r : HereAndThere) → renumber.Outcome n t names renamed renamed′ (r .renumbering)
+pub renumber-then-list : (n : ℕ) (t names renamed renamed′ : List ℕ) (limit allowance : ℕ) (d d′ l l′ e e′ m m′ : List ℕ) (r : HereAndThere) → RenumberOutcome n t names renamed renamed′ (r .renumbering)
     → ListOutcome n t limit allowance d d′ l l′ (r .here) → ListOutcome n renamed′ limit allowance e e′ m m′ (r .there)
     → RenumberThenList n t names renamed renamed′ limit allowance d d′ l l′ e e′ m m′ r
 renumber-then-list n t names renamed renamed′ limit allowance d d′ l l′ e e′ m m′ r R O P = record {

@@ -1,5 +1,5 @@
--- Demand 1. Every call checks its own input. Bad input gets a numbered refusal, exactly when the outline says, naming the first fault;
--- what is left in every lent buffer is fixed too. src/calls.rt ensures it of each call. A lent buffer afterwards has a prime: dist, dist′.
+-- Demand 1, and demand 2 of counting and listing: what is demanded of each call, refused or accepted. A lent buffer afterwards has a prime: dist,
+-- dist′.
 --
 --   Met Gives Left Done a              a call has answered a: the chain of its checks gives this answer; refused, it has left what `Left` says,
 --                                      accepted, it has done what `Done` says
@@ -19,13 +19,12 @@ use Rattle.network.specs.Chain.{Answers}
 use Rattle.distance.specs.Distances.{DistanceTable}
 use Rattle.candidate.specs.declared.Tested.{Tested}
 use Rattle.ring.specs.Maxima.{ringMost}
-use Rattle.candidate.specs.CandidateOutcome.{noValues, values}
-use Rattle.candidate.specs.CandidateOutcome as candidate
+use Rattle.candidate.specs.CandidateOutcome.{noValues, values, RightValues}
 use Rattle.census.specs.declared.Census.{Census}
 use Rattle.census.specs.Census.{noCensus}
 use Rattle.renumber.specs.Outcome.{Renumbered}
-use Rattle.bnw.specs.declared.Reading.{Reading}
-use Rattle.bnw.specs.declared.Written.{Written}
+use Rattle.bnw.specs.declared.FileRead.{FileRead}
+use Rattle.bnw.specs.declared.FileWritten.{FileWritten}
 use Rattle.bnw.specs.File.{fileOf, bondsOf}
 use Rattle.bnw.specs.Reading.{atomsIn, bondsIn, signed, ReadsAs}
 use Rattle.demands.specs.Refusals.{ValidateSays, DistancesSays, CandidateSays, CountSays, ListSays, RenumberSays, WriteSays}
@@ -44,7 +43,7 @@ pub record AfterSearch (n : ℕ) (t dist dist′ : List ℕ) (c : Census) : Type
   pub early : ((c .answer .code ≡ 12) ⊎ (c .answer .code ≡ 13) → ⊥) → dist′ ≡ dist
 
 -- nothing is read: but the count field goes with 22 and 23
-pub record NothingRead (file table table′ : List ℕ) (r : Reading) : Type 0 where
+pub record NothingRead (file table table′ : List ℕ) (r : FileRead) : Type 0 where
   pub atoms : r .atoms ≡ 0
   pub bonds : r .bonds ≡ 0
   pub stays : table′ ≡ table
@@ -73,7 +72,7 @@ abbrev pub CandidateMet : ℕ → List ℕ → List ℕ → List ℕ → List �
 CandidateMet n t r dist dist′ c =
     Met (CandidateSays n t r dist)
     ((dist′ ≡ dist) × (values (c .shortest) ≡ noValues) × (c .writing ≡ replicate ringMost 0))
-    (DistanceTable n t dist′ × candidate.Says t r (values (c .shortest)) (c .writing))
+    (DistanceTable n t dist′ × RightValues t r (values (c .shortest)) (c .writing))
     (c .answer)
 
 abbrev pub CountMet : ℕ → List ℕ → ℕ → ℕ → List ℕ → List ℕ → Census → Type 0
@@ -97,14 +96,14 @@ RenumberMet n t names renamed renamed′ a =
     (Renumbered n t names renamed′)
     a
 
-abbrev pub WriteMet : ℕ → List ℕ → List ℕ → List ℕ → Written → Type 0
+abbrev pub WriteMet : ℕ → List ℕ → List ℕ → List ℕ → FileWritten → Type 0
 WriteMet n t file file′ w =
     Met (WriteSays n t file)
     ((w .bytes ≡ 0) × (file′ ≡ file))
     ((w .bytes ≡ length (fileOf n (bondsOf t))) × (file′ ≡ fileOf n (bondsOf t) ++ drop (w .bytes) file))
     (w .answer)
 
-abbrev pub ReadMet : List ℕ → List ℕ → List ℕ → Reading → Type 0
+abbrev pub ReadMet : List ℕ → List ℕ → List ℕ → FileRead → Type 0
 ReadMet file table table′ r =
     Met (ReadSays file table)
     (NothingRead file table table′ r)

@@ -11,7 +11,7 @@ use mathlib.Core.List.{List, _++_}
 use Prim.Native.Nat.{ℕ, _*_, _≤_}
 use lib.ListN.{length, getD, drop}
 use Rattle.graph.specs.Lists.{_∈_}
-use Rattle.examples.specs.Examples.{Example, tableOf, byLength, AllHold, examples}
+use Rattle.examples.specs.Examples.{Example, rowsTable, byLength, AllHold, examples}
 use Rattle.examples.specs.NearMisses.{AllMissed}
 use Rattle.examples.specs.Repeats.{AllTakenTwice}
 use Rattle.ring.specs.Maxima.{allowanceMost}
@@ -40,5 +40,5 @@ pub record ExampleListed (e : Example) (l l′ : List ℕ) (c : Census) : Type 0
 abbrev pub ExamplesListed : Type 0
 ExamplesListed =
     (e : Example) → e ∈ examples → (allowance : ℕ) (d d′ l l′ : List ℕ) (c : Census) → Enough e allowance d l
-    → ListMet (length (e .rows)) (tableOf (e .rows)) (e .limit) allowance d d′ l l′ c
+    → ListMet (length (e .rows)) (rowsTable (e .rows)) (e .limit) allowance d d′ l l′ c
     → ExampleListed e l l′ c

@@ -13,7 +13,7 @@ use lib.ListN.{length, getD}
 use Rattle.network.specs.Maxima.{atomsMost, places}
 use Rattle.network.specs.Chain.{Answers, Check, Accepted}
 use Rattle.bnw.specs.File.{Bond, mark, version, bondsMost, headLength, bondLength}
-use Rattle.bnw.specs.FirstBond.{Misplaced, Ninth, NamesBond}
+use Rattle.bnw.specs.FirstBond.{Misplaced, Ninth, NamesFirstBond}
 use Rattle.bnw.specs.Reading.{versionIn, atomsIn, bondsIn, signed, bondIn}
 
 abbrev pub Marked : List ℕ → Type 0
@@ -24,7 +24,7 @@ Within low high (pos v) = (low ≤ v) × (v ≤ high)
 Within low high (negsuc v) = ⊥
 
 unfoldable pub Bonds : ℕ → (ℕ → Bond) → ℕ → Answers → Answers
-Bonds n bond m Later a = NamesBond n bond m a ⊎ (((k : ℕ) → k < m → (Misplaced n bond k → ⊥) × (Ninth bond k → ⊥)) × Later a)
+Bonds n bond m Later a = NamesFirstBond n bond m a ⊎ (((k : ℕ) → k < m → (Misplaced n bond k → ⊥) × (Ninth bond k → ⊥)) × Later a)
 
 abbrev pub ReadSays : List ℕ → List ℕ → Answers
 ReadSays file table =

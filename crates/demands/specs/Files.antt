@@ -1,5 +1,4 @@
--- Demand 2, of files. An accepted file, read and written again, gives the same bytes;
--- an accepted network, written and read again, gives the same network.
+-- Demand 2, of files.
 --
 --   rowsRead r table′           the rows that a reading has filled
 --   ReadThenWrite file table table′ lent lent′ r      both calls meet what is demanded of them; an accepted reading leaves a network,
@@ -12,20 +11,20 @@ use Prim.Native.Nat.{ℕ, _*_, _≤_}
 use lib.ListN.{length, take}
 use Rattle.network.specs.Maxima.{places}
 use Rattle.network.specs.Network.{IsNetwork}
-use Rattle.bnw.specs.declared.Reading.{Reading}
-use Rattle.demands.specs.declared.files.ThereAndBack.{ThereAndBack}
+use Rattle.bnw.specs.declared.FileRead.{FileRead}
+use Rattle.demands.specs.declared.ReadAndWritten.{ReadAndWritten}
 use Rattle.demands.specs.Calls.{ReadMet, WriteMet}
 
-abbrev pub rowsRead : Reading → List ℕ → List ℕ
+abbrev pub rowsRead : FileRead → List ℕ → List ℕ
 rowsRead r table′ = take (places * r .atoms) table′
 
-pub record ReadThenWrite (file table table′ lent lent′ : List ℕ) (r : ThereAndBack) : Type 0 where
+pub record ReadThenWrite (file table table′ lent lent′ : List ℕ) (r : ReadAndWritten) : Type 0 where
   pub read : ReadMet file table table′ (r .reading)
   pub written : WriteMet (r .reading .atoms) (rowsRead (r .reading) table′) lent lent′ (r .writing)
   pub network : r .reading .answer .code ≡ 0 → IsNetwork (r .reading .atoms) (rowsRead (r .reading) table′)
   pub back : r .reading .answer .code ≡ 0 → length file ≤ length lent → (r .writing .answer .code ≡ 0) × (take (r .writing .bytes) lent′ ≡ file)
 
-pub record WriteThenRead (n : ℕ) (t file file′ table table′ : List ℕ) (r : ThereAndBack) : Type 0 where
+pub record WriteThenRead (n : ℕ) (t file file′ table table′ : List ℕ) (r : ReadAndWritten) : Type 0 where
   pub written : WriteMet n t file file′ (r .writing)
   pub read : ReadMet (take (r .writing .bytes) file′) table table′ (r .reading)
   pub back : r .writing .answer .code ≡ 0 → places * n ≤ length table → (r .reading .answer .code ≡ 0) × (r .reading .atoms ≡ n) × (rowsRead (r .reading) table′ ≡ t)

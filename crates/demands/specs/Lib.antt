@@ -1,5 +1,4 @@
--- What is demanded of the library, as src/ ensures it of the calls: Calls with the answers in Refusals and FileRefusals, Rings, Files,
--- Program, Renumbering. That it fixes the outcome, and the examples: Demands.
+-- What is demanded of the library. Read Demands first: it has the demands' sentences, and says where each is stated.
 pub mod Refusals
 pub mod FileRefusals
 pub mod Rings

@@ -10,8 +10,8 @@ use Rattle.network.specs.declared.Answer.{Answer}
 use Rattle.network.specs.Chain.{Answers, OneAnswer}
 use Rattle.candidate.specs.declared.Tested.{Tested}
 use Rattle.census.specs.declared.Census.{Census}
-use Rattle.bnw.specs.declared.Reading.{Reading}
-use Rattle.bnw.specs.declared.Written.{Written}
+use Rattle.bnw.specs.declared.FileRead.{FileRead}
+use Rattle.bnw.specs.declared.FileWritten.{FileWritten}
 use Rattle.demands.specs.Refusals.{ValidateSays, DistancesSays, CandidateSays, CountSays, ListSays, RenumberSays, WriteSays}
 use Rattle.demands.specs.FileRefusals.{ReadSays}
 use Rattle.demands.specs.Calls.{ValidateMet, DistancesMet, CandidateMet, CountMet, ListMet, RenumberMet, WriteMet, ReadMet}
@@ -43,7 +43,7 @@ abbrev pub RenumberFixed : Type 0
 RenumberFixed = (n : ℕ) (t names renamed : List ℕ) → Fixed (RenumberSays n t names renamed) (λ (o : Answer × List ℕ). RenumberMet n t names renamed (o .1) (o .0))
 
 abbrev pub WriteFixed : Type 0
-WriteFixed = (n : ℕ) (t file : List ℕ) → Fixed (WriteSays n t file) (λ (o : Written × List ℕ). WriteMet n t file (o .1) (o .0))
+WriteFixed = (n : ℕ) (t file : List ℕ) → Fixed (WriteSays n t file) (λ (o : FileWritten × List ℕ). WriteMet n t file (o .1) (o .0))
 
 abbrev pub ReadFixed : Type 0
-ReadFixed = (file table : List ℕ) → Fixed (ReadSays file table) (λ (o : Reading × List ℕ). ReadMet file table (o .1) (o .0))
+ReadFixed = (file table : List ℕ) → Fixed (ReadSays file table) (λ (o : FileRead × List ℕ). ReadMet file table (o .1) (o .0))

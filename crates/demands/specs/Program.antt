@@ -1,5 +1,5 @@
 -- What the listing program prints for a file is what reading the file and listing its network say (document 01, "The network file").
--- A lent buffer afterwards has a prime. src/program.rt ensures it of the call.
+-- A lent buffer afterwards has a prime.
 --
 --   ListingPrinted n bonds l l′ c text    the text of listing a network into the buffer l: the refusal's line; or atoms and bonds, a line for
 --                                         each of the rings that stand in the buffer, the counts by length and the total of the census
@@ -19,8 +19,8 @@ use Rattle.graph.specs.Lists.{gather}
 use Rattle.ring.specs.Maxima.{allowanceMost}
 use Rattle.census.specs.declared.Census.{Census}
 use Rattle.census.specs.Census.{encode, ListOutcome}
-use Rattle.bnw.specs.declared.Reading.{Reading}
-use Rattle.bnw.specs.Reading.{Bytes, Reads}
+use Rattle.bnw.specs.declared.FileRead.{FileRead}
+use Rattle.bnw.specs.Reading.{Bytes, ReadOutcome}
 use Rattle.text.specs.Lines.{sizesText, ringText, countsText, totalText, refusalText}
 use Rattle.report.specs.Report.{fileBytes, tableWords, listWords, textBytes, FileText, Stands}
 use Rattle.demands.specs.Files.{rowsRead}
@@ -32,14 +32,14 @@ pub record ListingPrinted (n bonds : ℕ) (l l′ : List ℕ) (c : Census) (text
       × (l′ ≡ encode rings ++ drop (c .words) l)
       × (text ≡ sizesText n bonds ++ (gather ringText rings ++ (countsText 0 (c .counts) ++ totalText (c .total))))
 
-pub record ReadingPrinted (table′ : List ℕ) (r : Reading) (text : List ℕ) : Type 0 where
+pub record ReadingPrinted (table′ : List ℕ) (r : FileRead) (text : List ℕ) : Type 0 where
   pub refused : (r .answer .code ≡ 0 → ⊥) → text ≡ refusalText (r .answer)
   pub listed : r .answer .code ≡ 0 → (d d′ l l′ : List ℕ) (c : Census) → ListOutcome (r .atoms) (rowsRead r table′) 0 allowanceMost d d′ l l′ c
       → length d ≡ r .atoms * r .atoms → length l ≡ listWords → ListingPrinted (r .atoms) (r .bonds) l l′ c text
 
 pub record Printed (file text : List ℕ) : Type 0 where
   pub of-file : FileText file text
-  pub says : (table table′ : List ℕ) (r : Reading) → Reads file table table′ r → length table ≡ tableWords → ReadingPrinted table′ r text
+  pub says : (table table′ : List ℕ) (r : FileRead) → ReadOutcome file table table′ r → length table ≡ tableWords → ReadingPrinted table′ r text
   pub fits : length text ≤ textBytes
 
 pub record RespondMet (file out out′ : List ℕ) (bytes : ℕ) : Type 0 where

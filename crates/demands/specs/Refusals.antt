@@ -1,5 +1,4 @@
--- Demand 1, the answers. Bad input gets a numbered refusal, exactly when the outline says, naming the first fault.
--- The answers that a call may give are a chain of its checks, in the order in which they are made (`network: Chain`).
+-- Demand 1, the answers: those that a call may give are a chain of its checks, in the order in which they are made (`network: Chain`).
 --
 --   OfRings t limit Later a     what comes later says it of the listing of the network's rings
 --   RightLimit limit, RightAllowance allowance    the right inputs of checks 2 and 3

@@ -1,5 +1,4 @@
--- Demand 3. Renumber the atoms, then list; or list, then renumber the rings: the same set of rings.
--- Limit, allowance and buffer lengths equal, both succeed with equal counts or both are refused with the same number.
+-- Demand 3, of listing and of counting.
 --
 --   SameRings names limit t renamed′ l l′ m m′     the buffer l becomes the list of the network's rings, m that of the renumbered network's,
 --                               and these are those under their new names
@@ -16,7 +15,7 @@ use Rattle.graph.specs.Listing.{RingListing}
 use Rattle.network.specs.Network.{Bonded}
 use Rattle.renumber.specs.Carried.{RingsRenumbered}
 use Rattle.census.specs.Census.{limitOf, encode}
-use Rattle.demands.specs.declared.renumbering.HereAndThere.{HereAndThere}
+use Rattle.demands.specs.declared.HereAndThere.{HereAndThere}
 use Rattle.demands.specs.Calls.{RenumberMet, CountMet, ListMet}
 
 pub record SameRings (names : List ℕ) (limit : ℕ) (t renamed′ l l′ m m′ : List ℕ) : Type 0 where

@@ -1,11 +1,9 @@
--- Demand 2. In an accepted listing a cycle of 3 to the limit's number of bonds stands, once, exactly when between any two of its atoms
--- the distance round the ring is the distance in the whole network. One way to write a ring, one place in the list; counts and averages follow.
+-- Demand 2, of rings.
 --
---   RingsStand t limit rings    the demand, of a list of rings, in the network whose bonds the table t tells: a cycle r of at most limit bonds stands in
---                               the list, once, exactly when between any two of its atoms the distance round the ring is the distance in the
---                               network (`graph: StandExactly, StandsOnce, RoundIsDistance`). One ring is every reading of it, from any place
---                               either way; in its one writing the smallest atom stands first, and the second is smaller than the last;
---                               and in the list shorter rings stand first, equal lengths by the first atom that differs
+--   RingsStand t limit rings    the demand, of a list of rings, in the network whose bonds the table t tells: `graph: StandExactly, StandsOnce,
+--                               RoundIsDistance`, where one ring is every reading of it, from any place either way, and in its one writing the
+--                               smallest atom stands first, and the second is smaller than the last; in the list shorter rings stand first,
+--                               equal lengths by the first atom that differs
 --   Numbers n rings c           the numbers of a census c that follow from the list: counts, total, words, averages
 --   AcceptedCount n t limit c   the demand, of counting: the limit used, and a list of rings of which both hold
 --   AcceptedListing n t limit list list′ c    the demand, of a listing: and these rings stand at the front of the list buffer, whose rest stays

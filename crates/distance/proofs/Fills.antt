@@ -10,7 +10,7 @@ use borrow.Author.Tests.{eq-eqb, ne-eqb}
 use Rattle.network.specs.Maxima.{places, free}
 use Rattle.network.specs.Network.{word}
 use Rattle.distance.specs.Distances.{noPath}
-use Rattle.distance.specs.Levels.{offer, give, visit, level, start, unreached, Filled}
+use Rattle.distance.specs.Levels.{offer, give, visit, level, firstRow, unreached, PassFilled}
 
 module _ (e : ℕ) (row : List ℕ) (w : ℕ) where
   pub offer-taken : (getD row w 0 ≡ noPath → ⊥) → offer e row w ≡ row
@@ -42,19 +42,19 @@ unfolding unreached
 unreached-all zero = refl
 unreached-all (suc n) = ap suc (unreached-all n)
 
-pub unreached-start : (n s : ℕ) → s < n → unreached (start n s) + 1 ≡ n
+pub unreached-start : (n s : ℕ) → s < n → unreached (firstRow n s) + 1 ≡ n
 unreached-start n s l = unreached-set (replicate n noPath) s 0 (rw length-replicate l) (getD-replicate n s noPath 0 l) (omega arith) ∙ unreached-all n
 
-pub start-long : (n s : ℕ) (row : List ℕ) → row ≡ start n s → length row ≡ n
+pub start-long : (n s : ℕ) (row : List ℕ) → row ≡ firstRow n s → length row ≡ n
 start-long n s row h = rw h (simp (length-set, length-replicate))
 
-pub filled-none : (row : List ℕ) → Filled row row 0
+pub filled-none : (row : List ℕ) → PassFilled row row 0
 filled-none row = record { long = refl; fewer = omega arith; same = λ _. refl }
 
-pub filled-one : (row : List ℕ) (w e : ℕ) → w < length row → getD row w 0 ≡ noPath → e < noPath → Filled row (set row w e) 1
+pub filled-one : (row : List ℕ) (w e : ℕ) → w < length row → getD row w 0 ≡ noPath → e < noPath → PassFilled row (set row w e) 1
 filled-one row w e l h d = record { long = length-set row w e; fewer = unreached-set row w e l h (omega arith); same = λ z. absurd (omega arith) }
 
-pub filled-more : (a b c : List ℕ) (r q : ℕ) → Filled a b r → Filled b c q → Filled a c (r + q)
+pub filled-more : (a b c : List ℕ) (r q : ℕ) → PassFilled a b r → PassFilled b c q → PassFilled a c (r + q)
 filled-more a b c r q f g = record {
   long = g .long ∙ f .long;
   fewer = omega arith;

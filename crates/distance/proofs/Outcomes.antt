@@ -19,7 +19,7 @@ use Rattle.network.proofs.Verdicts.{not-long, long, sized}
 use Rattle.network.proofs.Chains.{check-long, check-passed, sizes-say, sizes-passed, table-says, table-passed}
 use Rattle.network.proofs.Networks.{network-of, accepted-of, right-atoms, right-table, wrong-sizes}
 use Rattle.distance.specs.Distances.{noPath, DistanceTable}
-use Rattle.distance.specs.Outcome.{distanceVerdict, Outcome}
+use Rattle.distance.specs.Outcome.{distanceVerdict, DistancesOutcome}
 
 pub square : (n : ℕ) → n ≤ atomsMost → n * n ≤ atomsMost * atomsMost
 square n h = mul-le-mul h h
@@ -39,14 +39,14 @@ module _ (n : ℕ) (t old : List ℕ) where
 
 -- the outcome at each way through the checks; s is the answer of the sizes
 module _ (n : ℕ) (t old : List ℕ) (a : Answer) where
-  refused-with : a ≡ distanceVerdict n t old → (a .code ≡ 0 → ⊥) → Outcome n t old old a
+  refused-with : a ≡ distanceVerdict n t old → (a .code ≡ 0 → ⊥) → DistancesOutcome n t old old a
   refused-with h z = record { answer = h; refused = λ _. refl; filled = λ y. absurd (z y) }
 
-  pub out-sizes : a ≡ sizes n t (λ b. b) accepted → (a .code ≡ 0 → ⊥) → Outcome n t old old a
+  pub out-sizes : a ≡ sizes n t (λ b. b) accepted → (a .code ≡ 0 → ⊥) → DistancesOutcome n t old old a
   unfolding distanceVerdict
   out-sizes e z = refused-with (wrong-sizes n t a e z _) z
 
-  pub out-5 : (s : Answer) → s ≡ sizes n t (λ b. b) accepted → s .code ≡ 0 → a ≡ refusal 5 → (length old ≡ n * n → ⊥) → Outcome n t old old a
+  pub out-5 : (s : Answer) → s ≡ sizes n t (λ b. b) accepted → s .code ≡ 0 → a ≡ refusal 5 → (length old ≡ n * n → ⊥) → DistancesOutcome n t old old a
   unfolding distanceVerdict
   out-5 s e z h l = refused-with (h ∙ sym (sized n t (right-atoms n t s e z) (right-table n t s e z) _ ∙ rw (not-long old (n * n) l) refl)) (omega (arith, ap code h))
 
@@ -54,10 +54,10 @@ module _ (n : ℕ) (t old : List ℕ) (a : Answer) where
     says : a ≡ distanceVerdict n t old
     says = h ∙ sym (verdict-rest n t old room)
 
-    pub out-faults : (a .code ≡ 0 → ⊥) → Outcome n t old old a
+    pub out-faults : (a .code ≡ 0 → ⊥) → DistancesOutcome n t old old a
     out-faults = refused-with says
 
-    pub out-filled : (new : List ℕ) → a .code ≡ 0 → DistanceTable n t new → Outcome n t old new a
+    pub out-filled : (new : List ℕ) → a .code ≡ 0 → DistanceTable n t new → DistancesOutcome n t old new a
     out-filled new y d = record { answer = says; refused = λ f. absurd (f y); filled = λ _. d }
 
 pub is-network : (n : ℕ) (t : List ℕ) (a : Answer) → a ≡ verdict n t → a .code ≡ 0 → IsNetwork n t
@@ -86,7 +86,7 @@ table-unique n t c d C D = ext-getD 0 c d (C .full ∙ sym (D .full)) λ i l.
     rw (div-add-mod' i n) at e
 
 -- the outcome is unique
-pub outcome-unique : (n : ℕ) (t before c d : List ℕ) (a b : Answer) → Outcome n t before c a → Outcome n t before d b → (a ≡ b) × (c ≡ d)
+pub outcome-unique : (n : ℕ) (t before c d : List ℕ) (a b : Answer) → DistancesOutcome n t before c a → DistancesOutcome n t before d b → (a ≡ b) × (c ≡ d)
 outcome-unique n t before c d a b C D =
     let e : a ≡ b = C .answer ∙ sym (D .answer) in (
       e,

@@ -13,7 +13,7 @@ use Rattle.network.specs.Maxima.{atomsMost}
 use Rattle.network.specs.Network.{Holds, Bonded, IsNetwork}
 use Rattle.network.proofs.Bonds.{bonded-from, bonded-to}
 use Rattle.distance.specs.Distances.{noPath}
-use Rattle.distance.specs.Levels.{RowOf, level, start, unreached, Filled}
+use Rattle.distance.specs.Levels.{RowOf, level, firstRow, unreached, PassFilled}
 use Rattle.distance.proofs.Fills.{unreached-start, start-long}
 use Rattle.distance.proofs.Spread.{Spread, From, pass-spreads, pass-gives}
 
@@ -23,7 +23,7 @@ pub record Reached (t : List ℕ) (n s d : ℕ) (row : List ℕ) : Type 0 where
   pub far : (w : ℕ) → w < n → getD row w 0 ≡ noPath → (k : ℕ) → k ≤ d → Walk (Bonded t) k s w → ⊥
 
 module _ (t : List ℕ) (n s : ℕ) (N : IsNetwork n t) (l : s < n) where
-  pub reached-start : Reached t n s 0 (start n s)
+  pub reached-start : Reached t n s 0 (firstRow n s)
   reached-start = record {
     near = λ w m z. elim (ℕ-discrete w s) [
       | yes e ↦ rw (e, here) (omega arith, record { walk = refl; least = λ k _. omega arith })
@@ -32,16 +32,16 @@ module _ (t : List ℕ) (n s : ℕ) (N : IsNetwork n t) (l : s < n) where
     far = nowhere;
   }
     where
-      here : getD (start n s) s 0 ≡ 0
+      here : getD (firstRow n s) s 0 ≡ 0
       here = getD-set-same (replicate n noPath) s 0 0 (rw length-replicate l)
 
-      nowhere : (w : ℕ) → w < n → getD (start n s) w 0 ≡ noPath → (k : ℕ) → k ≤ 0 → Walk (Bonded t) k s w → ⊥
+      nowhere : (w : ℕ) → w < n → getD (firstRow n s) w 0 ≡ noPath → (k : ℕ) → k ≤ 0 → Walk (Bonded t) k s w → ⊥
       nowhere w m z zero q e =
-          let g : getD (start n s) s 0 ≡ noPath = rw (← e) at z in
+          let g : getD (firstRow n s) s 0 ≡ noPath = rw (← e) at z in
           omega (arith, here)
       nowhere w m z (suc k) q e = omega arith
 
-      there : (w : ℕ) → w < n → (w ≡ s → ⊥) → getD (start n s) w 0 ≡ noPath
+      there : (w : ℕ) → w < n → (w ≡ s → ⊥) → getD (firstRow n s) w 0 ≡ noPath
       there w m e = getD-set-other (replicate n noPath) s w 0 0 e ∙ getD-replicate n w noPath 0 m
 
   module _ (d : ℕ) (small : d + 1 < noPath) (row : List ℕ) (long : length row ≡ n) (R : Reached t n s d row) where
@@ -121,17 +121,17 @@ pub record Before (t : List ℕ) (n s d : ℕ) (row : List ℕ) : Type 0 where
   pub reached : Reached t n s d row
   pub room : d + 1 + unreached row ≤ n
 
-pub before-start : (t : List ℕ) (n s : ℕ) (row : List ℕ) → IsNetwork n t → s < n → row ≡ start n s → Before t (length row) s 0 row
+pub before-start : (t : List ℕ) (n s : ℕ) (row : List ℕ) → IsNetwork n t → s < n → row ≡ firstRow n s → Before t (length row) s 0 row
 before-start t n s row N l h =
     rw (start-long n s row h) (rw h (record {
       net = N;
       known = l;
-      long = start-long n s (start n s) refl;
+      long = start-long n s (firstRow n s) refl;
       reached = reached-start t n s N l;
       room = omega (arith, unreached-start n s l);
     }))
 
-module _ (t : List ℕ) (n s d : ℕ) (row new : List ℕ) (r : ℕ) (B : Before t n s d row) (h : new ≡ level t d (length row) 0 row) (F : Filled row new r) where
+module _ (t : List ℕ) (n s d : ℕ) (row new : List ℕ) (r : ℕ) (B : Before t n s d row) (h : new ≡ level t d (length row) 0 row) (F : PassFilled row new r) where
   small : d + 1 < noPath
   small = omega (arith, B .room, B .net .counted .most)
 

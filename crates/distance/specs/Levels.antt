@@ -5,9 +5,9 @@
 --   give t v e k p row        e goes to the neighbours at the k places of v's row from p on, as far as the first free place
 --   visit t d v row           v gives d + 1 where it is at d
 --   level t d k v row         so do the k atoms from v on
---   start n s                 the row before the first pass: s is at 0, no other atom has an entry
+--   firstRow n s              the row before the first pass: s is at 0, no other atom has an entry
 --   unreached row             how many atoms have no entry
---   Filled old new r          r entries were filled on the way from old to new
+--   PassFilled old new r          r entries were filled on the way from old to new
 use mathlib.Core.Path.{_≡_}
 use mathlib.Core.List.{List, [], _∷_}
 use mathlib.Core.Bool.{cond}
@@ -36,14 +36,14 @@ unfoldable pub level : List ℕ → ℕ → ℕ → ℕ → List ℕ → List �
 level t d zero v row = row
 level t d (suc k) v row = level t d k (v + 1) (visit t d v row)
 
-abbrev pub start : ℕ → ℕ → List ℕ
-start n s = set (replicate n noPath) s 0
+abbrev pub firstRow : ℕ → ℕ → List ℕ
+firstRow n s = set (replicate n noPath) s 0
 
 unfoldable pub unreached : List ℕ → ℕ
 unreached [] = 0
 unreached (a ∷ row) = cond (eqb a noPath) (suc (unreached row)) (unreached row)
 
-pub record Filled (old new : List ℕ) (r : ℕ) : Type 0 where
+pub record PassFilled (old new : List ℕ) (r : ℕ) : Type 0 where
   pub long : length new ≡ length old
   pub fewer : unreached new + r ≡ unreached old
   pub same : r ≡ 0 → new ≡ old

@@ -4,14 +4,14 @@ mod rows;
 use network::Answer;
 ghost use mathlib.Core.Path.{_≡_};
 ghost use Rattle.distance.specs.Distances.{noPath};
-ghost use Rattle.distance.specs.Outcome.{Outcome};
+ghost use Rattle.distance.specs.Outcome.{DistancesOutcome};
 
 // The byte for two atoms between which there is no path.
 pub const NO_PATH: u8 = 255;
 
 // Fills `dist` with the distances of a network: refusals 1, 4, 5, and 7 to 11.
 pub fn distances(n: usize, table: &[u16], dist: &mut [u8]) -> Answer
-    ensures { λ r. ⌜ Outcome n (now (table .entry)) (now (dist .entry)) (now (dist .exit)) r ⌝ }
+    ensures { λ r. ⌜ DistancesOutcome n (now (table .entry)) (now (dist .entry)) (now (dist .exit)) r ⌝ }
 {
     let sized = network::sizes(n, table);
     if sized.code != 0 {

@@ -7,7 +7,7 @@ ghost use lib.ListN.{length};
 ghost use Rattle.network.specs.Maxima.{places};
 ghost use Rattle.network.specs.Network.{IsNetwork};
 ghost use Rattle.distance.specs.Distances.{noPath, DistanceTable};
-ghost use Rattle.distance.specs.Levels.{RowOf, offer, give, visit, level, start, Filled};
+ghost use Rattle.distance.specs.Levels.{RowOf, offer, give, visit, level, firstRow, PassFilled};
 
 // The distances from every atom.
 pub fn fill(n: usize, table: &[u16], dist: &mut [u8])
@@ -41,7 +41,7 @@ fn fill_row(table: &[u16], row: &mut [u8], s: usize)
 // The row before the first pass.
 fn start_row(row: &mut [u8], s: usize)
     requires { ⌜ s < length (now row) ⌝ }
-    ensures { λ _. ⌜ now (row .exit) ≡ start (length (now (row .entry))) s ⌝ }
+    ensures { λ _. ⌜ now (row .exit) ≡ firstRow (length (now (row .entry))) s ⌝ }
 {
     let mut i = 0;
     while i < row.len() {
@@ -54,7 +54,7 @@ fn start_row(row: &mut [u8], s: usize)
 // The atoms at d give d + 1; how many entries were filled.
 fn pass(table: &[u16], row: &mut [u8], d: u8) -> usize
     requires { ⌜ (d + 1 < noPath) × IsNetwork (length (now row)) (now table) ⌝ }
-    ensures { λ r. ⌜ (now (row .exit) ≡ level (now (table .entry)) d (length (now (row .entry))) 0 (now (row .entry))) × Filled (now (row .entry)) (now (row .exit)) r ⌝ }
+    ensures { λ r. ⌜ (now (row .exit) ≡ level (now (table .entry)) d (length (now (row .entry))) 0 (now (row .entry))) × PassFilled (now (row .entry)) (now (row .exit)) r ⌝ }
 {
     let mut count = 0;
     let mut v = 0;
@@ -68,7 +68,7 @@ fn pass(table: &[u16], row: &mut [u8], d: u8) -> usize
 // v gives d + 1 if it is at d.
 fn visit_one(table: &[u16], row: &mut [u8], v: usize, d: u8) -> usize
     requires { ⌜ (d + 1 < noPath) × (v < length (now row)) × IsNetwork (length (now row)) (now table) ⌝ }
-    ensures { λ r. ⌜ (now (row .exit) ≡ visit (now (table .entry)) d v (now (row .entry))) × Filled (now (row .entry)) (now (row .exit)) r ⌝ }
+    ensures { λ r. ⌜ (now (row .exit) ≡ visit (now (table .entry)) d v (now (row .entry))) × PassFilled (now (row .entry)) (now (row .exit)) r ⌝ }
 {
     if row[v] != d {
         return 0;
@@ -79,7 +79,7 @@ fn visit_one(table: &[u16], row: &mut [u8], v: usize, d: u8) -> usize
 // e goes to the neighbours of v, which stand before the first free place.
 fn give_all(table: &[u16], row: &mut [u8], v: usize, e: u8) -> usize
     requires { ⌜ (e < noPath) × (v < length (now row)) × IsNetwork (length (now row)) (now table) ⌝ }
-    ensures { λ r. ⌜ (now (row .exit) ≡ give (now (table .entry)) v e places 0 (now (row .entry))) × Filled (now (row .entry)) (now (row .exit)) r ⌝ }
+    ensures { λ r. ⌜ (now (row .exit) ≡ give (now (table .entry)) v e places 0 (now (row .entry))) × PassFilled (now (row .entry)) (now (row .exit)) r ⌝ }
 {
     let mut count = 0;
     let mut p = 0;
@@ -97,7 +97,7 @@ fn give_all(table: &[u16], row: &mut [u8], v: usize, e: u8) -> usize
 // e goes to atom w if it has no entry; how many entries were filled.
 fn offer_to(row: &mut [u8], w: u16, e: u8) -> usize
     requires { ⌜ (e < noPath) × (w < length (now row)) ⌝ }
-    ensures { λ r. ⌜ (now (row .exit) ≡ offer e (now (row .entry)) w) × Filled (now (row .entry)) (now (row .exit)) r ⌝ }
+    ensures { λ r. ⌜ (now (row .exit) ≡ offer e (now (row .entry)) w) × PassFilled (now (row .entry)) (now (row .exit)) r ⌝ }
 {
     let atom = w as usize;
     if row[atom] != NO_PATH {

@@ -15,7 +15,7 @@ use Rattle.network.specs.Network.{Bonded, IsNetwork, neighbours}
 use Rattle.network.specs.Verdict.{placeFault, bondFault, firstFault, orElse, stands, sizes, verdict, faults}
 use Rattle.network.proofs.Networks.{network-of, accepted-of}
 use Rattle.network.proofs.Bonds.{bonded-by, finite}
-use Rattle.examples.specs.Examples.{Example, tableOf, byLength, ExampleHolds, AllHold, examples}
+use Rattle.examples.specs.Examples.{Example, rowsTable, byLength, ExampleHolds, AllHold, examples}
 use Rattle.examples.specs.NearMisses.{distancesBy}
 use Rattle.examples.specs.Computed.{listOver, same, samePair, listsRings, passes}
 use Rattle.examples.proofs.Tests.{same-of, pair-of}
@@ -28,7 +28,7 @@ listed n t N limit =
 pub holds-of : (e : Example) → T (passes e) → ExampleHolds e
 holds-of e h =
     let n = length (e .rows) in
-    let t = tableOf (e .rows) in
+    let t = rowsTable (e .rows) in
     let dist = distancesBy (e .limit) n (neighbours t) in
     let a = and-T (eqb (verdict n t .code) 0) _ h in
     let b = and-T (listsRings n t e dist) _ (a .1) in

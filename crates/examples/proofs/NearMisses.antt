@@ -7,7 +7,7 @@ use Rattle.graph.specs.Levels.{elem}
 use Rattle.graph.proofs.Lists.{and-T, every-of}
 use Rattle.graph.proofs.Levels.{elem-has}
 use Rattle.network.specs.Verdict.{placeFault, bondFault, firstFault, orElse, stands, sizes, verdict, faults}
-use Rattle.examples.specs.Examples.{tableOf}
+use Rattle.examples.specs.Examples.{rowsTable}
 use Rattle.examples.specs.NearMisses.{NearMiss, Missed, AllMissed, nearMisses}
 use Rattle.examples.specs.Repeats.{smallestFirst, secondSmaller}
 use Rattle.examples.specs.Computed.{same, closed, misses}
@@ -18,7 +18,7 @@ missed-of : (m : NearMiss) → T (misses m) → Missed m
 missed-of m h =
     let r = m .cycle in
     let rings = m .example .rings in
-    let t = tableOf (m .example .rows) in
+    let t = rowsTable (m .example .rows) in
     let a = and-T (m .test (length (m .example .rows)) t r) _ h in
     let b = and-T (closed t r) _ (a .1) in
     let c = and-T (leb (length r) (m .example .limit)) _ (b .1) in

@@ -16,7 +16,7 @@ use Rattle.network.specs.Network.{Bonded, IsNetwork}
 use Rattle.network.specs.Verdict.{placeFault, bondFault, firstFault, orElse, stands, sizes, verdict, faults}
 use Rattle.network.proofs.Networks.{network-of}
 use Rattle.network.proofs.Bonds.{bonded-back}
-use Rattle.examples.specs.Examples.{tableOf}
+use Rattle.examples.specs.Examples.{rowsTable}
 use Rattle.examples.specs.Repeats.{Repeat, TakenTwice, AllTakenTwice, repeats}
 use Rattle.examples.specs.Computed.{same, readingsOf, takesTwice}
 use Rattle.examples.proofs.Tests.{same-of, same-self, reading-of}
@@ -28,7 +28,7 @@ twice-of m h =
     let s = m .other in
     let rings = m .example .rings in
     let n = length (m .example .rows) in
-    let t = tableOf (m .example .rows) in
+    let t = rowsTable (m .example .rows) in
     let a = and-T (m .test n t r) _ h in
     let b = and-T (m .test n t s) _ (a .1) in
     let c = and-T (elem (same eqb) r rings) _ (b .1) in

@@ -23,7 +23,7 @@ use Rattle.graph.specs.Counts.{ofLength, wordsOf}
 use Rattle.graph.specs.Search.{ringsWithin, inWriting}
 use Rattle.network.specs.Network.{neighbours}
 use Rattle.network.specs.Verdict.{verdict}
-use Rattle.examples.specs.Examples.{Example, tableOf, byLength}
+use Rattle.examples.specs.Examples.{Example, rowsTable, byLength}
 use Rattle.examples.specs.NearMisses.{distancesBy, everyPairOf, NearMiss}
 use Rattle.examples.specs.Repeats.{smallestFirst, secondSmaller, Repeat}
 
@@ -45,8 +45,8 @@ listsRings n t e dist = same (same eqb) (listOver n t (e .limit) dist) (e .rings
 
 abbrev pub passes : Example → Bool
 passes e =
-    eqb (verdict (length (e .rows)) (tableOf (e .rows)) .code) 0
-    && (listsRings (length (e .rows)) (tableOf (e .rows)) e (distancesBy (e .limit) (length (e .rows)) (neighbours (tableOf (e .rows))))
+    eqb (verdict (length (e .rows)) (rowsTable (e .rows)) .code) 0
+    && (listsRings (length (e .rows)) (rowsTable (e .rows)) e (distancesBy (e .limit) (length (e .rows)) (neighbours (rowsTable (e .rows))))
     && (eqb (e .words) (wordsOf (e .rings))
     && same samePair (e .counts) (byLength (e .limit) (λ k. ofLength k (e .rings)))))
 
@@ -59,8 +59,8 @@ closed t r =
 
 abbrev pub misses : NearMiss → Bool
 misses m =
-    m .test (length (m .example .rows)) (tableOf (m .example .rows)) (m .cycle)
-    && (closed (tableOf (m .example .rows)) (m .cycle)
+    m .test (length (m .example .rows)) (rowsTable (m .example .rows)) (m .cycle)
+    && (closed (rowsTable (m .example .rows)) (m .cycle)
     && (leb (length (m .cycle)) (m .example .limit)
     && (smallestFirst (m .cycle)
     && (secondSmaller (m .cycle)
@@ -81,8 +81,8 @@ readingsOf r = gather (readingsFrom r) (count (length r) 0)
 
 abbrev pub takesTwice : Repeat → Bool
 takesTwice m =
-    m .test (length (m .example .rows)) (tableOf (m .example .rows)) (m .ring)
-    && (m .test (length (m .example .rows)) (tableOf (m .example .rows)) (m .other)
+    m .test (length (m .example .rows)) (rowsTable (m .example .rows)) (m .ring)
+    && (m .test (length (m .example .rows)) (rowsTable (m .example .rows)) (m .other)
     && (elem (same eqb) (m .ring) (m .example .rings)
     && (elem (same eqb) (m .other) (readingsOf (m .ring))
     && (not (same eqb (m .other) (m .ring))

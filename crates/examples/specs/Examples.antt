@@ -2,7 +2,7 @@
 --
 --   Example              the neighbours of each atom, a limit, the rings within it, the words that they take, and how many there
 --                        are of each length that has any, as pairs of a length and its number
---   tableOf rows         the bond table with these rows: each filled up with free places
+--   rowsTable rows       the bond table with these rows: each filled up with free places
 --   byLength limit f     the lengths k up to the limit, each with its number f k, where that is above zero
 --   ExampleHolds e       the table is accepted, the rings are its listing, and words and counts are those of the rings
 --   P1 .. P11b           the networks; P11 is two examples, with the limits 5 and 4
@@ -27,15 +27,15 @@ pub record Example : Type 0 where
   pub words : ℕ
   pub counts : List (ℕ × ℕ)
 
-abbrev pub tableOf : List (List ℕ) → List ℕ
-tableOf rows = gather (λ r. r ++ replicate (places - length r) free) rows
+abbrev pub rowsTable : List (List ℕ) → List ℕ
+rowsTable rows = gather (λ r. r ++ replicate (places - length r) free) rows
 
 abbrev pub byLength : ℕ → (ℕ → ℕ) → List (ℕ × ℕ)
 byLength limit f = keep (λ c. ltb 0 (c .1)) (map (λ k. (k, f k)) (count (suc limit) 0))
 
 pub record ExampleHolds (e : Example) : Type 0 where
-  pub is-accepted : verdict (length (e .rows)) (tableOf (e .rows)) ≡ accepted
-  pub listing : RingListing (Bonded (tableOf (e .rows))) (e .limit) (e .rings)
+  pub is-accepted : verdict (length (e .rows)) (rowsTable (e .rows)) ≡ accepted
+  pub listing : RingListing (Bonded (rowsTable (e .rows))) (e .limit) (e .rings)
   pub words : e .words ≡ wordsOf (e .rings)
   pub counts : e .counts ≡ byLength (e .limit) (λ k. ofLength k (e .rings))
 

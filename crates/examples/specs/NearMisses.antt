@@ -23,7 +23,7 @@ use Rattle.graph.specs.Graph.{around, Ring, ShortestPathRing}
 use Rattle.graph.specs.Levels.{elem}
 use Rattle.graph.specs.Search.{distanceTable, look}
 use Rattle.network.specs.Network.{Bonded, neighbours}
-use Rattle.examples.specs.Examples.{Example, tableOf, P2, P5, P6, P7}
+use Rattle.examples.specs.Examples.{Example, rowsTable, P2, P5, P6, P7}
 
 abbrev pub RingTest : Type 0
 RingTest = ℕ → List ℕ → List ℕ → Bool
@@ -58,9 +58,9 @@ pub record NearMiss : Type 0 where
   pub cycle : List ℕ
 
 pub record Missed (m : NearMiss) : Type 0 where
-  pub takes : T (m .test (length (m .example .rows)) (tableOf (m .example .rows)) (m .cycle))
-  pub ring : Ring (Bonded (tableOf (m .example .rows))) 0 (m .cycle)
-  pub not-shortest : ShortestPathRing (Bonded (tableOf (m .example .rows))) 0 (m .cycle) → ⊥
+  pub takes : T (m .test (length (m .example .rows)) (rowsTable (m .example .rows)) (m .cycle))
+  pub ring : Ring (Bonded (rowsTable (m .example .rows))) 0 (m .cycle)
+  pub not-shortest : ShortestPathRing (Bonded (rowsTable (m .example .rows))) 0 (m .cycle) → ⊥
 
 abbrev pub nearMisses : List NearMiss
 nearMisses =

@@ -18,7 +18,7 @@ use Rattle.graph.specs.Lists.{_∈_, count, every}
 use Rattle.graph.specs.Graph.{ShortestPathRing}
 use Rattle.graph.specs.Writing.{Reading, OneWriting}
 use Rattle.network.specs.Network.{Bonded, neighbours}
-use Rattle.examples.specs.Examples.{Example, tableOf, P4}
+use Rattle.examples.specs.Examples.{Example, rowsTable, P4}
 use Rattle.examples.specs.NearMisses.{RingTest, distancesBy, pairsFit}
 
 abbrev pub smallestFirst : List ℕ → Bool
@@ -41,10 +41,10 @@ pub record Repeat : Type 0 where
 
 pub record TakenTwice (m : Repeat) : Type 0 where
   pub listed : m .ring ∈ m .example .rings
-  pub takes : T (m .test (length (m .example .rows)) (tableOf (m .example .rows)) (m .ring))
-  pub takes-other : T (m .test (length (m .example .rows)) (tableOf (m .example .rows)) (m .other))
+  pub takes : T (m .test (length (m .example .rows)) (rowsTable (m .example .rows)) (m .ring))
+  pub takes-other : T (m .test (length (m .example .rows)) (rowsTable (m .example .rows)) (m .other))
   pub reading : Reading 0 (m .ring) (m .other)
-  pub shortest : ShortestPathRing (Bonded (tableOf (m .example .rows))) 0 (m .other)
+  pub shortest : ShortestPathRing (Bonded (rowsTable (m .example .rows))) 0 (m .other)
   pub not-written : OneWriting (m .other) → ⊥
 
 abbrev pub repeats : List Repeat

@@ -10,7 +10,7 @@ use lib.Dec.{T}
 use Rattle.graph.specs.Lists.{_∈_, gather, consIf}
 use Rattle.graph.specs.Graph.{Walk, Distance}
 use Rattle.graph.specs.Finite.{BondedBy}
-use Rattle.graph.specs.Levels.{elem, once, hit, spread, levels, after}
+use Rattle.graph.specs.Levels.{elem, once, hit, spread, levels, walkEnds}
 use Rattle.graph.proofs.Lists.{gather-of, gather-has, or-T, T-or-l, T-or-r}
 use Rattle.graph.proofs.Distances.{nearest-of, distance-of}
 
@@ -64,18 +64,18 @@ module _ {A : Type 0} (eq : A → A → Bool) (eq-of : (a b : A) → T (eq a b) 
       go false h = h
 
   module _ (adj : A → List A) where
-    pub after-of : (n : ℕ) (xs : List A) (y : A) → y ∈ after eq adj n xs → (x : A) × (x ∈ xs) × Walk (BondedBy adj) n x y
+    pub after-of : (n : ℕ) (xs : List A) (y : A) → y ∈ walkEnds eq adj n xs → (x : A) × (x ∈ xs) × Walk (BondedBy adj) n x y
     after-of zero xs y m = (y, m, refl)
     after-of (suc n) xs y m =
         let w = after-of n (spread eq adj xs) y m in
         let g = gather-of adj xs (once-of (gather adj xs) (w .1)) in
         (g .0, g .1, (w .0, g .2, w .2))
 
-    pub after-has : (n : ℕ) (xs : List A) (x y : A) → x ∈ xs → Walk (BondedBy adj) n x y → y ∈ after eq adj n xs
+    pub after-has : (n : ℕ) (xs : List A) (x y : A) → x ∈ xs → Walk (BondedBy adj) n x y → y ∈ walkEnds eq adj n xs
     after-has zero xs x y m w = Memᴰ·cast (sym w) m
     after-has (suc n) xs x y m w = after-has n (spread eq adj xs) (w .0) y (once-has (gather-has adj m (w .1))) (w .2)
 
-    pub walk-from : (n : ℕ) (x y : A) → y ∈ after eq adj n (x ∷ []) → Walk (BondedBy adj) n x y
+    pub walk-from : (n : ℕ) (x y : A) → y ∈ walkEnds eq adj n (x ∷ []) → Walk (BondedBy adj) n x y
     walk-from n x y m = let w = after-of n (x ∷ []) y m in one (w .0) (List·Memᴰ·cases-cons (w .1)) (w .2)
       where
         one : (z : A) → (z ≡ x) ⊎ (z ∈ []) → Walk (BondedBy adj) n z y → Walk (BondedBy adj) n x y
@@ -84,7 +84,7 @@ module _ {A : Type 0} (eq : A → A → Bool) (eq-of : (a b : A) → T (eq a b) 
 
     -- y is first met m levels on
     abbrev First : ℕ → List A → A → Type 0
-    First m xs y = (y ∈ after eq adj m xs) × ((i : ℕ) → i < m → y ∈ after eq adj i xs → ⊥)
+    First m xs y = (y ∈ walkEnds eq adj m xs) × ((i : ℕ) → i < m → y ∈ walkEnds eq adj i xs → ⊥)
 
     hit-of : (far n m d : ℕ) (xs : List A) (y : A) → m < n → d + m < far → hit eq far (levels eq adj n xs) d y ≡ d + m → First m xs y
     hit-of far zero m d xs y l c e = absurd (omega arith)
@@ -106,7 +106,7 @@ module _ {A : Type 0} (eq : A → A → Bool) (eq-of : (a b : A) → T (eq a b) 
         go true f e ih = absurd (omega arith)
         go false f e ih = (ih (omega arith) .0, away)
           where
-            away : (i : ℕ) → i < suc m → y ∈ after eq adj i xs → ⊥
+            away : (i : ℕ) → i < suc m → y ∈ walkEnds eq adj i xs → ⊥
             away zero l′ k = f k
             away (suc i) l′ k = ih (omega arith) .1 i (omega arith) k
 
@@ -128,7 +128,7 @@ module _ {A : Type 0} (eq : A → A → Bool) (eq-of : (a b : A) → T (eq a b) 
         go false f e = omega arith
 
     -- what is met on no level is far
-    pub hit-never : (far n d : ℕ) (xs : List A) (y : A) → ((i : ℕ) → i < n → y ∈ after eq adj i xs → ⊥) → hit eq far (levels eq adj n xs) d y ≡ far
+    pub hit-never : (far n d : ℕ) (xs : List A) (y : A) → ((i : ℕ) → i < n → y ∈ walkEnds eq adj i xs → ⊥) → hit eq far (levels eq adj n xs) d y ≡ far
     hit-never far zero d xs y none = refl
     hit-never far (suc n) d xs y none = go (elem eq y xs) (λ t. none 0 (omega arith) (elem-of y xs t)) (hit-never far n (suc d) (spread eq adj xs) y (λ i l m. none (suc i) (omega arith) m))
       where
@@ -159,7 +159,7 @@ module _ {A : Type 0} (eq : A → A → Bool) (eq-of : (a b : A) → T (eq a b) 
     -- the least number of bonds below b
     pub find : (x y : A) (b : ℕ) → ((d : ℕ) × (d < b) × Distance (BondedBy adj) x y d) ⊎ ((i : ℕ) → i < b → Walk (BondedBy adj) i x y → ⊥)
     find x y zero = inr (λ i l w. omega arith)
-    find x y (suc b) = go (find x y b) (elem eq y (after eq adj b (x ∷ []))) (λ t. walk-from b x y (elem-of y (after eq adj b (x ∷ [])) t)) (λ w. elem-has y (after-has b (x ∷ []) x y (List·Memᴰ·head refl) w))
+    find x y (suc b) = go (find x y b) (elem eq y (walkEnds eq adj b (x ∷ []))) (λ t. walk-from b x y (elem-of y (walkEnds eq adj b (x ∷ [])) t)) (λ w. elem-has y (after-has b (x ∷ []) x y (List·Memᴰ·head refl) w))
       where
         go : ((d : ℕ) × (d < b) × Distance (BondedBy adj) x y d) ⊎ ((i : ℕ) → i < b → Walk (BondedBy adj) i x y → ⊥) → (t : Bool) → (T t → Walk (BondedBy adj) b x y) → (Walk (BondedBy adj) b x y → T t)
             → ((d : ℕ) × (d < suc b) × Distance (BondedBy adj) x y d) ⊎ ((i : ℕ) → i < suc b → Walk (BondedBy adj) i x y → ⊥)

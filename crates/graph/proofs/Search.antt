@@ -12,7 +12,7 @@ use Rattle.graph.specs.Lists.{_∈_, Ascending, count}
 use Rattle.graph.specs.Graph.{Distance, around, ShortestPathRing}
 use Rattle.graph.specs.Finite.{BondedBy}
 use Rattle.graph.specs.Listing.{Lex, Before, Listing, Listed}
-use Rattle.graph.specs.Search.{grow, apart, following, rings, ringsWithin}
+use Rattle.graph.specs.Search.{grow, atRingDistances, following, rings, ringsWithin}
 use Rattle.graph.proofs.Lists.{gather-of, gather-has, keep-of, keep-has, map-of, map-has, count-of, count-has, count-ascending, and-T, T-and, keep-ascending, gather-ascending}
 use Rattle.graph.proofs.Rings.{ring-by-distances}
 
@@ -74,7 +74,7 @@ module _ {Vertex : Type 0} (next : List Vertex → List Vertex) where
 -- from every vertex of the path, and that the writing allows there
 module _ {Vertex : Type 0} (o : Vertex) (vertices : List Vertex) (adj : Vertex → List Vertex) (dist : Vertex → Vertex → ℕ) (allowed : ℕ → List Vertex → Vertex → Bool) where
   abbrev beside : ℕ → List Vertex → Vertex → Bool
-  beside = apart o vertices adj dist allowed
+  beside = atRingDistances o vertices adj dist allowed
 
   abbrev follow : ℕ → List Vertex → List Vertex
   follow = following o vertices adj dist allowed

@@ -4,7 +4,7 @@
 --   once eq xs                each member once
 --   spread eq adj xs          what is bonded to a member of xs, each once
 --   levels eq adj n xs        the ends of walks from xs of 0, 1, .., n - 1 bonds
---   after eq adj n xs         the ends of walks from xs of n bonds
+--   walkEnds eq adj n xs      the ends of walks from xs of n bonds
 --   hit eq far ls d y         the number, counted from d, of the first of the levels ls that holds y; far if none does
 use mathlib.Core.Bool.{Bool, true, false, _||_, not}
 use mathlib.Core.List.{List, [], _∷_}
@@ -32,6 +32,6 @@ module _ {A : Type 0} (eq : A → A → Bool) where
     levels zero xs = []
     levels (suc n) xs = xs ∷ levels n (spread xs)
 
-    abbrev pub after : ℕ → List A → List A
-    after zero xs = xs
-    after (suc n) xs = after n (spread xs)
+    abbrev pub walkEnds : ℕ → List A → List A
+    walkEnds zero xs = xs
+    walkEnds (suc n) xs = walkEnds n (spread xs)

@@ -1,7 +1,7 @@
 -- The list of rings computed depth first over a table of distances (document 001, VI B).
 --
 --   grow next m p            every way to lengthen the path p by m vertices, where `next q` lists what may follow q
---   apart dist k p v         v, put after p, is at the distances of a ring of k from every vertex of p
+--   atRingDistances dist k p v  v, put after p, is at the distances of a ring of k from every vertex of p
 --   following .. k p         what may follow p on a ring of k
 --   rings .. k               the rings of k vertices
 --   ringsWithin .. limit     the rings of 3 to limit vertices
@@ -25,13 +25,13 @@ module _ {Vertex : Type 0} (next : List Vertex → List Vertex) where
 
 module _ {Vertex : Type 0} (o : Vertex) (vertices : List Vertex) (adj : Vertex → List Vertex) (dist : Vertex → Vertex → ℕ)
     (allowed : ℕ → List Vertex → Vertex → Bool) where
-  abbrev pub apart : ℕ → List Vertex → Vertex → Bool
-  apart k [] v = true
-  apart k (x ∷ p) v = eqb (dist x v) (around k (suc (length p))) && apart k p v
+  abbrev pub atRingDistances : ℕ → List Vertex → Vertex → Bool
+  atRingDistances k [] v = true
+  atRingDistances k (x ∷ p) v = eqb (dist x v) (around k (suc (length p))) && atRingDistances k p v
 
   abbrev pub following : ℕ → List Vertex → List Vertex
   following k [] = vertices
-  following k (x ∷ p) = keep (λ v. apart k (x ∷ p) v && allowed k (x ∷ p) v) (adj (getD (x ∷ p) (length p) o))
+  following k (x ∷ p) = keep (λ v. atRingDistances k (x ∷ p) v && allowed k (x ∷ p) v) (adj (getD (x ∷ p) (length p) o))
 
   abbrev pub rings : ℕ → List (List Vertex)
   rings k = grow (following k) k []

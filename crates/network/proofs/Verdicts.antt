@@ -10,7 +10,7 @@ use borrow.Author.Tests.{eq-eqb, ne-eqb, le-leb, lt-leb}
 use Rattle.network.specs.declared.Answer.{Answer}
 use Rattle.network.specs.Maxima.{atomsMost, places, free}
 use Rattle.network.specs.Network.{Counted}
-use Rattle.network.specs.Verdict.{placeFault, bondFault, firstFault, orElse, accepted, refusal, check, faults, notAtoms, notLong, sizes, atomsOf, WordsBelow}
+use Rattle.network.specs.Verdict.{placeFault, bondFault, firstFault, orElse, accepted, refusal, check, faults, notAtoms, notLong, sizes, atomsOrNone, WordsBelow}
 use Rattle.network.proofs.PlaceFaults.{fault-7}
 
 -- one word, then the rest
@@ -102,27 +102,27 @@ not-atoms-high n l = let one : 1 ≤ n = omega arith in simp (le-leb _ _ one, lt
 pub atoms : (n : ℕ) → 1 ≤ n → n ≤ atomsMost → notAtoms n ≡ false
 atoms n l m = simp (le-leb _ _ l, le-leb _ _ m)
 
-pub atoms-low : (n m : ℕ) → n < 1 → m ≡ 0 → m ≡ atomsOf n
-unfolding atomsOf
+pub atoms-low : (n m : ℕ) → n < 1 → m ≡ 0 → m ≡ atomsOrNone n
+unfolding atomsOrNone
 atoms-low n m l e = rw (not-atoms-low n l) e
 
-pub atoms-high : (n m : ℕ) → atomsMost < n → m ≡ 0 → m ≡ atomsOf n
-unfolding atomsOf
+pub atoms-high : (n m : ℕ) → atomsMost < n → m ≡ 0 → m ≡ atomsOrNone n
+unfolding atomsOrNone
 atoms-high n m l e = rw (not-atoms-high n l) e
 
-pub atoms-right : (n : ℕ) → 1 ≤ n → n ≤ atomsMost → n ≡ atomsOf n
-unfolding atomsOf
+pub atoms-right : (n : ℕ) → 1 ≤ n → n ≤ atomsMost → n ≡ atomsOrNone n
+unfolding atomsOrNone
 atoms-right n l m = rw (atoms n l m)
 
-pub no-atoms : (n m : ℕ) → m ≡ atomsOf n → m ≡ 0 → notAtoms n ≡ true
-unfolding atomsOf
+pub no-atoms : (n m : ℕ) → m ≡ atomsOrNone n → m ≡ 0 → notAtoms n ≡ true
+unfolding atomsOrNone
 no-atoms n m e z = go (notAtoms n) refl (sym e ∙ z)
   where
     go : (b : Bool) → notAtoms n ≡ b → cond b 0 n ≡ 0 → notAtoms n ≡ true
     go true h k = h
     go false h k = not-atoms-low n (omega arith)
 
-pub some-atoms : (n m : ℕ) → m ≡ atomsOf n → (m ≡ 0 → ⊥) → Counted n
+pub some-atoms : (n m : ℕ) → m ≡ atomsOrNone n → (m ≡ 0 → ⊥) → Counted n
 some-atoms n m e z = go (decLe 1 n) (decLe n atomsMost)
   where
     go : Dec (1 ≤ n) → Dec (n ≤ atomsMost) → Counted n
@@ -137,7 +137,7 @@ pub long : (t : List ℕ) (m : ℕ) → length t ≡ m → notLong t m ≡ false
 long t m h = simp (eq-eqb _ _ h)
 
 -- 1 and 4; m is what the constructor of networks gives for n
-module _ (n : ℕ) (t : List ℕ) (a : Answer) (m : ℕ) (e : m ≡ atomsOf n) where
+module _ (n : ℕ) (t : List ℕ) (a : Answer) (m : ℕ) (e : m ≡ atomsOrNone n) where
   pub sizes-1 : m ≡ 0 → a ≡ refusal 1 → a ≡ sizes n t (λ b. b) accepted
   unfolding sizes
   sizes-1 z h = h ∙ sym (rw (no-atoms n m e z) refl)

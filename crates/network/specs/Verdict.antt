@@ -6,10 +6,10 @@
 --   refusal code                a refusal that names no place
 --   check code bad later        one check of a call: refusal `code` where it is bad, else what comes later
 --   notAtoms n                  n is no number of atoms: 1 to 250
---   atomsOf n                   n, or 0 where n is no number of atoms
+--   atomsOrNone n               n, or 0 where n is no number of atoms
 --   notLong t m                 t has not m words
 --   sizes n t between later     the checks that every call with a table begins with: 1, what is checked between, 4, and what comes later
---   after i b                   word i has a word before it in its row, and b holds
+--   laterInRow i b              word i has a word before it in its row, and b holds
 --   placeFault n t i            7 to 10: the fault of word i alone, or 0
 --   WordsBelow n t              each neighbour is an atom: below n
 --   stands t x y k p            x stands at one of the k places of row y from p on
@@ -42,8 +42,8 @@ check code bad later = cond bad (refusal code) later
 abbrev pub notAtoms : ℕ → Bool
 notAtoms n = not (leb 1 n && leb n atomsMost)
 
-unfoldable pub atomsOf : ℕ → ℕ
-atomsOf n = cond (notAtoms n) 0 n
+unfoldable pub atomsOrNone : ℕ → ℕ
+atomsOrNone n = cond (notAtoms n) 0 n
 
 abbrev pub notLong : List ℕ → ℕ → Bool
 notLong t m = not (eqb (length t) m)
@@ -51,16 +51,16 @@ notLong t m = not (eqb (length t) m)
 unfoldable pub sizes : ℕ → List ℕ → (Answer → Answer) → Answer → Answer
 sizes n t between later = check 1 (notAtoms n) (between (check 4 (notLong t (places * n)) later))
 
-abbrev pub after : ℕ → Bool → Bool
-after i b = not (eqb (i % places) 0) && b
+abbrev pub laterInRow : ℕ → Bool → Bool
+laterInRow i b = not (eqb (i % places) 0) && b
 
 unfoldable pub placeFault : ℕ → List ℕ → ℕ → ℕ
 placeFault n t i =
     cond (eqb (getD t i 0) free) 0
     (cond (leb n (getD t i 0)) 7
-    (cond (after i (eqb (getD t (i - 1) 0) free)) 8
+    (cond (laterInRow i (eqb (getD t (i - 1) 0) free)) 8
     (cond (eqb (getD t i 0) (i / places)) 9
-    (cond (after i (leb (getD t i 0) (getD t (i - 1) 0))) 10
+    (cond (laterInRow i (leb (getD t i 0) (getD t (i - 1) 0))) 10
     0))))
 
 unfoldable pub WordsBelow : ℕ → List ℕ → Type 0

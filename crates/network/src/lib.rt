@@ -5,7 +5,7 @@ mod faults;
 
 ghost use mathlib.Core.Path.{_≡_};
 ghost use Rattle.network.specs.Maxima.{atomsMost, places, free};
-ghost use Rattle.network.specs.Verdict.{accepted, refusal, atomsOf, sizes, verdict};
+ghost use Rattle.network.specs.Verdict.{accepted, refusal, atomsOrNone, sizes, verdict};
 
 // A network of so many atoms.
 pub struct Network {
@@ -24,7 +24,7 @@ impl Network {
 
     // A network of n atoms, or of none where n is no number of atoms.
     pub fn of(n: usize) -> Network
-        ensures { λ r. ⌜ r .atoms ≡ atomsOf n ⌝ }
+        ensures { λ r. ⌜ r .atoms ≡ atomsOrNone n ⌝ }
     {
         if n < 1 {
             return Network::none();

@@ -1,6 +1,6 @@
 -- A renumbering carries the listing of a network's rings to that of the renumbered network.
 use mathlib.Core.Path.{_≡_, sym, _∙_, ap, subst₂}
-use mathlib.Core.List.{List, map}
+use mathlib.Core.List.{List}
 use Prim.Native.Nat.{ℕ, suc}
 use lib.ListN.{length, length-map}
 use Rattle.graph.specs.Writing.{Reading, OneWriting}
@@ -15,7 +15,7 @@ use Rattle.network.specs.declared.Answer.{Answer}
 use Rattle.network.specs.Network.{Bonded, IsNetwork}
 use Rattle.network.proofs.Bonds.{bonded-from, bonded-to, bonded-back}
 use Rattle.renumber.specs.Names.{name, OneToOne}
-use Rattle.renumber.specs.Outcome.{Renumbered, Outcome}
+use Rattle.renumber.specs.Outcome.{Renumbered, RenumberOutcome}
 use Rattle.renumber.specs.Carried.{RingsRenumbered, homeNames}
 use Rattle.renumber.proofs.Outcomes.{accepts}
 use Rattle.renumber.proofs.Home.{inverse-exists, home-below, home-named}
@@ -65,7 +65,7 @@ module _ (n : ℕ) (t names after : List ℕ) (N : IsNetwork n t) (O : OneToOne 
         long r s m n w = w .0 .alike ∙ length-map r (name names)
 
 -- the same of a call that is accepted
-pub call-carries : (n : ℕ) (t names before after : List ℕ) (a : Answer) → Outcome n t names before after a → a .code ≡ 0
+pub call-carries : (n : ℕ) (t names before after : List ℕ) (a : Answer) → RenumberOutcome n t names before after a → a .code ≡ 0
     → (limit : ℕ) (xs ys : List (List ℕ)) → RingListing (Bonded t) limit xs → RingListing (Bonded after) limit ys → RingsRenumbered names xs ys
 call-carries n t names before after a H z =
     let given = accepts n t names before .0 (ap (λ (x : Answer). x .code) (sym (H .answer)) ∙ z) in

@@ -13,7 +13,7 @@ use Rattle.network.specs.Maxima.{places}
 use Rattle.network.specs.Network.{Bonded, IsNetwork}
 use Rattle.network.proofs.Bonds.{bonded-from, bonded-to, network-unique}
 use Rattle.renumber.specs.Names.{name, OneToOne}
-use Rattle.renumber.specs.Outcome.{Renumbered, Outcome}
+use Rattle.renumber.specs.Outcome.{Renumbered, RenumberOutcome}
 use Rattle.renumber.specs.Carried.{Inverse, atomOf, homeNames}
 use Rattle.renumber.proofs.Naming.{same-name, named}
 use Rattle.renumber.proofs.Outcomes.{accepts}
@@ -65,7 +65,7 @@ module _ (n : ℕ) (names : List ℕ) (O : OneToOne n names) where
 
 -- the same of two calls: what one has accepted, the other accepts, and gives the first table
 pub calls-home : (n : ℕ) (t names home before after before′ after′ : List ℕ) (a a′ : Answer) → Inverse n names home → length before′ ≡ places * n
-    → Outcome n t names before after a → a .code ≡ 0 → Outcome n after home before′ after′ a′ → (a′ .code ≡ 0) × (after′ ≡ t)
+    → RenumberOutcome n t names before after a → a .code ≡ 0 → RenumberOutcome n after home before′ after′ a′ → (a′ .code ≡ 0) × (after′ ≡ t)
 calls-home n t names home before after before′ after′ a a′ I long H z K = (z′, renumbered-home n names (given .1) home I t after after′ (given .0) (H .renumbered z) (K .renumbered z′))
   where
     given : IsNetwork n t × OneToOne n names × (length before ≡ places * n)

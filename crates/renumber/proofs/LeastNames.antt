@@ -11,7 +11,7 @@ use lib.Seq.{getD-set-same, getD-set-other}
 use Rattle.network.specs.Maxima.{atomsMost, places, free}
 use Rattle.network.specs.Network.{word, Holds, IsNetwork}
 use Rattle.renumber.specs.Names.{name, OneToOne}
-use Rattle.renumber.specs.Rows.{Offered, Least, above, Filled}
+use Rattle.renumber.specs.Rows.{Offered, Least, above, RowBegun}
 
 -- each way through the tests
 module _ (names : List ℕ) (low w least : ℕ) where
@@ -72,22 +72,22 @@ module _ (t names : List ℕ) (x : ℕ) where
   above-same f g zero h = refl
   above-same f g (suc p) h = ap suc (h p (omega arith))
 
-  pub filled-same : (f g : ℕ → ℕ) (k : ℕ) → ((p : ℕ) → p < k → f p ≡ g p) → Filled t names x f k → Filled t names x g k
-  unfolding Filled
+  pub filled-same : (f g : ℕ → ℕ) (k : ℕ) → ((p : ℕ) → p < k → f p ≡ g p) → RowBegun t names x f k → RowBegun t names x g k
+  unfolding RowBegun
   filled-same f g k h F p l = rw (← h p l, ← above-same f g p (λ q m. h q (omega arith))) (F p l)
 
-  pub filled-none : (f : ℕ → ℕ) → Filled t names x f 0
-  unfolding Filled
+  pub filled-none : (f : ℕ → ℕ) → RowBegun t names x f 0
+  unfolding RowBegun
   filled-none f p l = absurd (omega arith)
 
   module _ (row : List ℕ) (low p w : ℕ) (here : p < length row) where
-    pub filled-next : low ≡ above (λ q. getD row q 0) p → Filled t names x (λ q. getD row q 0) p → Least t names x low places w → Filled t names x (λ q. getD (set row p w) q 0) (p + 1)
-    unfolding Filled
+    pub filled-next : low ≡ above (λ q. getD row q 0) p → RowBegun t names x (λ q. getD row q 0) p → Least t names x low places w → RowBegun t names x (λ q. getD (set row p w) q 0) (p + 1)
+    unfolding RowBegun
     filled-next e F L q l =
         elim (ℕ-discrete q p) [
           | yes d ↦ rw (d, getD-set-same row p w 0 here, above-same (λ q. getD (set row p w) q 0) (λ q. getD row q 0) p (λ r m. getD-set-other row p r w 0 (omega arith)), ← e) L
-          | no d ↦ (let before : Filled t names x (λ q. getD (set row p w) q 0) p = filled-same (λ q. getD row q 0) (λ q. getD (set row p w) q 0) p (λ r m. sym (getD-set-other row p r w 0 (omega arith))) F in before q (omega arith))
+          | no d ↦ (let before : RowBegun t names x (λ q. getD (set row p w) q 0) p = filled-same (λ q. getD row q 0) (λ q. getD (set row p w) q 0) p (λ r m. sym (getD-set-other row p r w 0 (omega arith))) F in before q (omega arith))
         ]
 
-  pub filled-all : (f : ℕ → ℕ) (p : ℕ) → p ≤ places → places ≤ p → Filled t names x f p → Filled t names x f places
-  filled-all f p l m F = let e : p ≡ places = omega arith in subst (λ (k : ℕ). Filled t names x f k) e F
+  pub filled-all : (f : ℕ → ℕ) (p : ℕ) → p ≤ places → places ≤ p → RowBegun t names x f p → RowBegun t names x f places
+  filled-all f p l m F = let e : p ≡ places = omega arith in subst (λ (k : ℕ). RowBegun t names x f k) e F

@@ -12,13 +12,13 @@ use Rattle.network.specs.declared.Answer.{Answer}
 use Rattle.network.specs.Verdict.{answer, accepted}
 use Rattle.network.specs.Chain.{Places, Accepted}
 use Rattle.network.proofs.Chains.{one-accepted, one-places, places-at, places-right, places-passed}
-use Rattle.renumber.specs.Names.{name, OneToOne, BadName, seen, badName, nameFaults}
+use Rattle.renumber.specs.Names.{name, OneToOne, BadName, nameSeen, badName, nameFaults}
 
 no-bool : {A : Type 0} → _≡_ {A = Bool} false true → A
 no-bool z = absurd (let e : _≡_ {A = ℕ} 0 1 = cc in omega arith)
 
-seen-of : (names : List ℕ) (w k j : ℕ) → seen names w k j ≡ true → (i : ℕ) × (j ≤ i) × (i < j + k) × (name names i ≡ w)
-unfolding seen
+seen-of : (names : List ℕ) (w k j : ℕ) → nameSeen names w k j ≡ true → (i : ℕ) × (j ≤ i) × (i < j + k) × (name names i ≡ w)
+unfolding nameSeen
 seen-of names w zero j s = no-bool s
 seen-of names w (suc k) j s =
     elim (ℕ-discrete (name names j) w) [
@@ -26,8 +26,8 @@ seen-of names w (suc k) j s =
       | no e ↦ (let r = seen-of names w k (j + 1) (simp (ne-eqb _ _ e) at s) in (r .0, omega (arith, r .1), omega (arith, r .2), r .3))
     ]
 
-seen-has : (names : List ℕ) (w k j i : ℕ) → j ≤ i → i < j + k → name names i ≡ w → seen names w k j ≡ true
-unfolding seen
+seen-has : (names : List ℕ) (w k j i : ℕ) → j ≤ i → i < j + k → name names i ≡ w → nameSeen names w k j ≡ true
+unfolding nameSeen
 seen-has names w zero j i l m e = absurd (omega arith)
 seen-has names w (suc k) j i l m e =
     elim (ℕ-discrete (name names j) w) [

@@ -8,22 +8,22 @@ use native.Mathlib.Omega.{arith}
 use borrow.Author.Tests.{eq-eqb, ne-eqb, le-leb, lt-leb}
 use Rattle.network.specs.declared.Answer.{Answer}
 use Rattle.network.specs.Verdict.{answer}
-use Rattle.renumber.specs.Names.{name, seen, badName, nameFaults}
+use Rattle.renumber.specs.Names.{name, nameSeen, badName, nameFaults}
 
-pub seen-start : (names : List ℕ) (w m : ℕ) → seen names w m 0 ≡ seen names w (m - 0) 0
+pub seen-start : (names : List ℕ) (w m : ℕ) → nameSeen names w m 0 ≡ nameSeen names w (m - 0) 0
 seen-start names w m = rw sub-zero
 
-module _ (names : List ℕ) (w m j : ℕ) (so-far : seen names w m 0 ≡ seen names w (m - j) j) where
-  pub seen-here : j < m → name names j ≡ w → true ≡ seen names w m 0
-  unfolding seen
+module _ (names : List ℕ) (w m j : ℕ) (so-far : nameSeen names w m 0 ≡ nameSeen names w (m - j) j) where
+  pub seen-here : j < m → name names j ≡ w → true ≡ nameSeen names w m 0
+  unfolding nameSeen
   seen-here l h = let e : m - j ≡ suc (m - (j + 1)) = omega arith in sym (so-far ∙ rw e (simp (eq-eqb _ _ h)))
 
-  pub seen-next : j < m → (name names j ≡ w → ⊥) → seen names w m 0 ≡ seen names w (m - (j + 1)) (j + 1)
-  unfolding seen
+  pub seen-next : j < m → (name names j ≡ w → ⊥) → nameSeen names w m 0 ≡ nameSeen names w (m - (j + 1)) (j + 1)
+  unfolding nameSeen
   seen-next l h = let e : m - j ≡ suc (m - (j + 1)) = omega arith in so-far ∙ rw e (simp (ne-eqb _ _ h))
 
-  pub seen-none : m ≤ j → false ≡ seen names w m 0
-  unfolding seen
+  pub seen-none : m ≤ j → false ≡ nameSeen names w m 0
+  unfolding nameSeen
   seen-none l = let e : m - j ≡ 0 = omega arith in sym (so-far ∙ rw e refl)
 
 module _ (n : ℕ) (names : List ℕ) (i : ℕ) where
@@ -31,7 +31,7 @@ module _ (n : ℕ) (names : List ℕ) (i : ℕ) where
   unfolding badName
   bad-high l = simp (le-leb _ _ l)
 
-  pub bad-seen : (b : Bool) → name names i < n → b ≡ seen names (name names i) i 0 → b ≡ badName n names i
+  pub bad-seen : (b : Bool) → name names i < n → b ≡ nameSeen names (name names i) i 0 → b ≡ badName n names i
   unfolding badName
   bad-seen b l h = rw (lt-leb _ _ l) h
 

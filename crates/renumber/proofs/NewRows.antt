@@ -11,7 +11,7 @@ use Rattle.network.specs.Maxima.{places, free}
 use Rattle.network.specs.Network.{word, Holds, Bonded, IsNetwork}
 use Rattle.network.proofs.Bonds.{bonded-to, bonded-back, bonded-other}
 use Rattle.renumber.specs.Names.{name, OneToOne}
-use Rattle.renumber.specs.Rows.{above, Filled}
+use Rattle.renumber.specs.Rows.{above, RowBegun}
 use Rattle.renumber.specs.Outcome.{Renumbered}
 use Rattle.renumber.proofs.LeastNames.{in-table}
 use Rattle.renumber.proofs.Naming.{same-name, named}
@@ -22,7 +22,7 @@ above-under row (suc k) v f = f k (omega arith)
 
 module _ (n : ℕ) (t names after : List ℕ) (N : IsNetwork n t) (O : OneToOne n names) where
   -- one row
-  module _ (x : ℕ) (l : x < n) (F : Filled t names x (word after (name names x)) places) where
+  module _ (x : ℕ) (l : x < n) (F : RowBegun t names x (word after (name names x)) places) where
     -- a word of the new row is the name of a neighbour, and above the word before
     record Word (p : ℕ) : Type 0 where
       from : ℕ
@@ -32,7 +32,7 @@ module _ (n : ℕ) (t names after : List ℕ) (N : IsNetwork n t) (O : OneToOne 
       rises : above (word after (name names x)) p ≤ word after (name names x) p
 
     word-of : (p : ℕ) → p < places → Holds after (name names x) p → Word p
-    unfolding Filled
+    unfolding RowBegun
     word-of p m h = go (F p m .one)
       where
         go : (word after (name names x) p ≡ free) ⊎ ((q : ℕ) × (q < places) × Holds t x q × (name names (word t x q) ≡ word after (name names x) p) × (above (word after (name names x)) p ≤ word after (name names x) p)) → Word p
@@ -64,7 +64,7 @@ module _ (n : ℕ) (t names after : List ℕ) (N : IsNetwork n t) (O : OneToOne 
     -- every neighbour's name has its place
     module _ (y : ℕ) (b : Bonded t x y) where
       climb : (k : ℕ) → k ≤ places → ((p : ℕ) × (p < k) × (word after (name names x) p ≡ name names y)) ⊎ ((p : ℕ) → p < k → word after (name names x) p < name names y)
-      unfolding Filled
+      unfolding RowBegun
       climb zero m = inr (λ p k. absurd (omega arith))
       climb (suc k) m = go (climb k (omega arith))
         where
@@ -113,7 +113,7 @@ module _ (n : ℕ) (t names after : List ℕ) (N : IsNetwork n t) (O : OneToOne 
               far i j k m (no d) _ q = absurd (omega arith)
 
   -- all rows
-  module _ (whole : length after ≡ places * n) (F : (x : ℕ) → x < n → Filled t names x (word after (name names x)) places) where
+  module _ (whole : length after ≡ places * n) (F : (x : ℕ) → x < n → RowBegun t names x (word after (name names x)) places) where
     there : (x y : ℕ) → x < n → Bonded t x y → Bonded after (name names x) (name names y)
     there x y l b =
         let p = has-place x l (F x l) y b in

@@ -7,7 +7,7 @@ use Rattle.network.specs.declared.Answer.{Answer}
 use Rattle.network.specs.Network.{Bonded}
 use Rattle.network.proofs.Bonds.{bonded-from, bonded-to, network-unique}
 use Rattle.renumber.specs.Names.{OneToOne}
-use Rattle.renumber.specs.Outcome.{Renumbered, Outcome}
+use Rattle.renumber.specs.Outcome.{Renumbered, RenumberOutcome}
 use Rattle.renumber.proofs.Naming.{named}
 use Rattle.renumber.proofs.Outcomes.{accepts}
 
@@ -23,7 +23,7 @@ module _ (n : ℕ) (t names : List ℕ) (O : OneToOne n names) where
           (S .bonds (i .0) (j .0) (i .1) (j .1) .1 (R .bonds (i .0) (j .0) (i .1) (j .1) .0 (subst₂ (λ p q. Bonded u p q) (sym (i .2)) (sym (j .2)) b)))
 
 pub one-outcome : (n : ℕ) (t names before after after′ : List ℕ) (a a′ : Answer)
-    → Outcome n t names before after a → Outcome n t names before after′ a′ → (a ≡ a′) × (after ≡ after′)
+    → RenumberOutcome n t names before after a → RenumberOutcome n t names before after′ a′ → (a ≡ a′) × (after ≡ after′)
 one-outcome n t names before after after′ a a′ H K = (same, go (ℕ-discrete (a .code) 0))
   where
     same : a ≡ a′

@@ -16,7 +16,7 @@ use Rattle.network.proofs.Verdicts.{not-long, long, sized}
 use Rattle.network.proofs.Chains.{check-says, check-passed, sizes-say, sizes-passed, table-says, table-passed}
 use Rattle.network.proofs.Networks.{network-of, verdict-kept, verdict-passed, right-atoms, right-table, wrong-sizes}
 use Rattle.renumber.specs.Names.{OneToOne, BadName, nameFaults}
-use Rattle.renumber.specs.Outcome.{renumberVerdict, Renumbered, Outcome}
+use Rattle.renumber.specs.Outcome.{renumberVerdict, Renumbered, RenumberOutcome}
 use Rattle.renumber.proofs.NameFaults.{names-say, one-to-one-of, accepted-names}
 
 abbrev code : Answer → ℕ
@@ -75,34 +75,34 @@ module _ (n : ℕ) (t names before : List ℕ) where
 
   -- the outcome; s is the answer of the sizes
   module _ (a : Answer) where
-    refused-with : a ≡ renumberVerdict n t names before → (a .code ≡ 0 → ⊥) → Outcome n t names before before a
+    refused-with : a ≡ renumberVerdict n t names before → (a .code ≡ 0 → ⊥) → RenumberOutcome n t names before before a
     refused-with e z = record { answer = e; refused = λ _. refl; renumbered = λ y. absurd (z y) }
 
-    pub out-sizes : a ≡ sizes n t (λ b. b) accepted → (a .code ≡ 0 → ⊥) → Outcome n t names before before a
+    pub out-sizes : a ≡ sizes n t (λ b. b) accepted → (a .code ≡ 0 → ⊥) → RenumberOutcome n t names before before a
     unfolding renumberVerdict
     out-sizes e z = refused-with (wrong-sizes n t a e z _) z
 
     module _ (s : Answer) (e : s ≡ sizes n t (λ b. b) accepted) (z : s .code ≡ 0) where
-      out-6 : (Lengths → ⊥) → a ≡ refusal 6 → Outcome n t names before before a
+      out-6 : (Lengths → ⊥) → a ≡ refusal 6 → RenumberOutcome n t names before before a
       unfolding renumberVerdict
       out-6 l h = refused-with (h ∙ sym (sized n t (right-atoms n t s e z) (right-table n t s e z) _ ∙ rw (lengths-wrong l) refl)) (omega (arith, ap code h))
 
-      pub out-6-names : (length names ≡ n → ⊥) → a ≡ refusal 6 → Outcome n t names before before a
+      pub out-6-names : (length names ≡ n → ⊥) → a ≡ refusal 6 → RenumberOutcome n t names before before a
       out-6-names l = out-6 (λ h. l (h .0))
 
-      pub out-6-table : (length before ≡ places * n → ⊥) → a ≡ refusal 6 → Outcome n t names before before a
+      pub out-6-table : (length before ≡ places * n → ⊥) → a ≡ refusal 6 → RenumberOutcome n t names before before a
       out-6-table l = out-6 (λ h. l (h .1))
 
     module _ (v : length names ≡ n) (u : length before ≡ places * n) where
-      pub out-faults : a ≡ verdict n t → (a .code ≡ 0 → ⊥) → Outcome n t names before before a
+      pub out-faults : a ≡ verdict n t → (a .code ≡ 0 → ⊥) → RenumberOutcome n t names before before a
       out-faults h y = refused-with (h ∙ sym (at-rest (v, u) ∙ verdict-kept n t _ (λ k. y (ap code h ∙ k)))) y
 
       module _ (b : Answer) (g : b ≡ verdict n t) (clean : b .code ≡ 0) (h : a ≡ nameFaults n names (length names) 0 accepted) where
         as-names : a ≡ renumberVerdict n t names before
         as-names = h ∙ sym (at-rest (v, u) ∙ verdict-passed n t _ (is-network n t b g clean))
 
-        pub out-18 : (a .code ≡ 0 → ⊥) → Outcome n t names before before a
+        pub out-18 : (a .code ≡ 0 → ⊥) → RenumberOutcome n t names before before a
         out-18 = refused-with as-names
 
-        pub out-renumbered : (after : List ℕ) → a .code ≡ 0 → Renumbered n t names after → Outcome n t names before after a
+        pub out-renumbered : (after : List ℕ) → a .code ≡ 0 → Renumbered n t names after → RenumberOutcome n t names before after a
         out-renumbered after y R = record { answer = as-names; refused = λ k. absurd (k y); renumbered = λ _. R }

@@ -11,7 +11,7 @@ use borrow.Rule.Slice.PartMut.{putMid, midOf, mid-len, same-len-mid, drop-put}
 use Rattle.network.specs.Maxima.{places}
 use Rattle.network.specs.Network.{word}
 use Rattle.renumber.specs.Names.{name, OneToOne}
-use Rattle.renumber.specs.Rows.{Filled}
+use Rattle.renumber.specs.Rows.{RowBegun}
 use Rattle.renumber.proofs.LeastNames.{filled-same}
 
 module _ (n a : ℕ) (d : List ℕ) (l : a < n) (long : length d ≡ places * n) where
@@ -53,8 +53,8 @@ module _ (n a : ℕ) (d : List ℕ) (l : a < n) (long : length d ≡ places * n)
 -- the rows filled so far, and one more
 module _ (n : ℕ) (t names : List ℕ) (O : OneToOne n names) (d : List ℕ) (x : ℕ) (l : x < n) (long : length d ≡ places * n) where
   pub rows-next : (row : List ℕ) (same : length row ≡ length (midOf (name names x * places) (name names x * places + places - name names x * places) d))
-      → ((y : ℕ) → y < x → Filled t names y (word d (name names y)) places) → Filled t names x (λ p. getD row p 0) places
-      → (y : ℕ) → y < x + 1 → Filled t names y (word (putMid (name names x * places) (name names x * places + places - name names x * places) d row) (name names y)) places
+      → ((y : ℕ) → y < x → RowBegun t names y (word d (name names y)) places) → RowBegun t names x (λ p. getD row p 0) places
+      → (y : ℕ) → y < x + 1 → RowBegun t names y (word (putMid (name names x * places) (name names x * places + places - name names x * places) d row) (name names y)) places
   rows-next row same before here y m =
       elim (ℕ-discrete y x) [
         | yes e ↦ rw e (filled-same t names x _ _ places (put-here n (name names x) d (O .below x l) long row same) here)

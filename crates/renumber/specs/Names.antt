@@ -2,8 +2,8 @@
 --
 --   name names x                  the new number of atom x
 --   OneToOne n names              a renumbering of n atoms: n names, each below n, no two equal
---   BadName n names i             18 at place i: its name is not below n, or was seen earlier
---   seen names w k j              whether w is among the k names from place j on
+--   BadName n names i         18 at place i: its name is not below n, or was seen earlier
+--   nameSeen names w k j          whether w is among the k names from place j on
 --   badName n names i             the same as BadName, computed
 --   nameFaults n names k i later  18 at the first bad name among the k from place i on, else what comes later
 use mathlib.Core.Path.{_≡_}
@@ -27,12 +27,12 @@ pub record OneToOne (n : ℕ) (names : List ℕ) : Type 0 where
 abbrev pub BadName : ℕ → List ℕ → ℕ → Type 0
 BadName n names i = (n ≤ name names i) ⊎ ((j : ℕ) × (j < i) × (name names j ≡ name names i))
 
-unfoldable pub seen : List ℕ → ℕ → ℕ → ℕ → Bool
-seen names w zero j = false
-seen names w (suc k) j = cond (eqb (name names j) w) true (seen names w k (j + 1))
+unfoldable pub nameSeen : List ℕ → ℕ → ℕ → ℕ → Bool
+nameSeen names w zero j = false
+nameSeen names w (suc k) j = cond (eqb (name names j) w) true (nameSeen names w k (j + 1))
 
 unfoldable pub badName : ℕ → List ℕ → ℕ → Bool
-badName n names i = cond (leb n (name names i)) true (seen names (name names i) i 0)
+badName n names i = cond (leb n (name names i)) true (nameSeen names (name names i) i 0)
 
 unfoldable pub nameFaults : ℕ → List ℕ → ℕ → ℕ → Answer → Answer
 nameFaults n names zero i later = later

@@ -2,7 +2,7 @@
 --
 --   renumberVerdict n t names before    1, 4, 6, then 7 to 11, then 18
 --   Renumbered n t names after          after is the table of a network in which y' stands in row x' exactly when y stands in row x of t
---   Outcome n t names before after a    refused, not one word is changed; accepted, the table is the renumbered one
+--   RenumberOutcome n t names before after a    refused, not one word is changed; accepted, the table is the renumbered one
 use mathlib.Core.Path.{_≡_}
 use mathlib.Core.Logic.{_↔_}
 use mathlib.Core.Bool.{_||_}
@@ -23,7 +23,7 @@ pub record Renumbered (n : ℕ) (t names after : List ℕ) : Type 0 where
   pub network : IsNetwork n after
   pub bonds : (x y : ℕ) → x < n → y < n → Bonded after (name names x) (name names y) ↔ Bonded t x y
 
-pub record Outcome (n : ℕ) (t names before after : List ℕ) (a : Answer) : Type 0 where
+pub record RenumberOutcome (n : ℕ) (t names before after : List ℕ) (a : Answer) : Type 0 where
   pub answer : a ≡ renumberVerdict n t names before
   pub refused : (a .code ≡ 0 → ⊥) → after ≡ before
   pub renumbered : a .code ≡ 0 → Renumbered n t names after

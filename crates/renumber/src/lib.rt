@@ -4,11 +4,11 @@ mod rows;
 
 use network::Answer;
 use network::Network;
-ghost use Rattle.renumber.specs.Outcome.{Outcome};
+ghost use Rattle.renumber.specs.Outcome.{RenumberOutcome};
 
 // Atom i gets the number names[i], and `renamed` becomes the table under these numbers: refusals 1, 4, 6, 7 to 11, and 18.
 pub fn renumber(n: usize, table: &[u16], names: &[u16], renamed: &mut [u16]) -> Answer
-    ensures { λ r. ⌜ Outcome n (now (table .entry)) (now (names .entry)) (now (renamed .entry)) (now (renamed .exit)) r ⌝ }
+    ensures { λ r. ⌜ RenumberOutcome n (now (table .entry)) (now (names .entry)) (now (renamed .entry)) (now (renamed .exit)) r ⌝ }
 {
     let sized = network::sizes(n, table);
     if sized.code != 0 {

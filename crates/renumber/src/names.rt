@@ -4,7 +4,7 @@ ghost use mathlib.Core.Path.{_≡_};
 ghost use Prim.Native.Nat.{_<_};
 ghost use lib.ListN.{length};
 ghost use Rattle.network.specs.Verdict.{accepted};
-ghost use Rattle.renumber.specs.Names.{name, seen, badName, nameFaults};
+ghost use Rattle.renumber.specs.Names.{name, nameSeen, badName, nameFaults};
 
 // 18 at the first bad name, or accepted.
 pub fn name_faults(n: usize, names: &[u16]) -> Answer
@@ -38,7 +38,7 @@ fn bad_name(n: usize, names: &[u16], i: usize) -> bool
 // Whether the name at place i stands at an earlier place.
 fn seen_before(names: &[u16], i: usize) -> bool
     requires { ⌜ i < length (now names) ⌝ }
-    ensures { λ r. ⌜ r ≡ seen (now (names .entry)) (name (now (names .entry)) i) i 0 ⌝ }
+    ensures { λ r. ⌜ r ≡ nameSeen (now (names .entry)) (name (now (names .entry)) i) i 0 ⌝ }
 {
     let mut j = 0;
     while j < i {

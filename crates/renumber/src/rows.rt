@@ -6,7 +6,7 @@ ghost use lib.ListN.{length, getD};
 ghost use Rattle.network.specs.Maxima.{places, free};
 ghost use Rattle.network.specs.Network.{IsNetwork};
 ghost use Rattle.renumber.specs.Names.{OneToOne};
-ghost use Rattle.renumber.specs.Rows.{Offered, Least, Filled};
+ghost use Rattle.renumber.specs.Rows.{Offered, Least, RowBegun};
 ghost use Rattle.renumber.specs.Outcome.{Renumbered};
 
 // Every row of the new table, in the order of the old numbers.
@@ -26,7 +26,7 @@ pub fn rename_rows(n: usize, table: &[u16], names: &[u16], renamed: &mut [u16])
 // The new row of atom x: each place takes the least name above the place before.
 fn fill_row(n: usize, table: &[u16], names: &[u16], x: usize, row: &mut [u16])
     requires { ⌜ IsNetwork n (now table) × OneToOne n (now names) × (x < n) × (length (now row) ≡ places) ⌝ }
-    ensures { λ _. ⌜ Filled (now (table .entry)) (now (names .entry)) x (λ p. getD (now (row .exit)) p 0) places ⌝ }
+    ensures { λ _. ⌜ RowBegun (now (table .entry)) (now (names .entry)) x (λ p. getD (now (row .exit)) p 0) places ⌝ }
 {
     let mut low = 0;
     let mut p = 0;

@@ -16,12 +16,12 @@ use Rattle.census.specs.declared.Census.{Census}
 use Rattle.census.specs.Census.{encodeBy, encode, countsOf, censusOf, afterList, Searched, ListOutcome}
 use Rattle.census.proofs.Passed.{limit-default, reached-exactly}
 use Rattle.census.proofs.Settled.{code, told-accepted, told-refused, room-enough}
-use Rattle.bnw.specs.declared.Reading.{Reading}
+use Rattle.bnw.specs.declared.FileRead.{FileRead}
 use Rattle.bnw.specs.File.{tableOf}
-use Rattle.bnw.specs.Reading.{readVerdict, Reads}
+use Rattle.bnw.specs.Reading.{readVerdict, ReadOutcome}
 use Rattle.bnw.proofs.RoundTrips.{table-is}
 use Rattle.text.specs.declared.Pen.{Pen}
-use Rattle.text.specs.Page.{Page, page, start, putAll}
+use Rattle.text.specs.Page.{Page, page, firstPen, putAll}
 use Rattle.text.specs.Lines.{ringText, wordsText, sizesText, countsText, totalText, listingText, refusalText}
 use Rattle.text.proofs.Pages.{text-fits}
 use Rattle.text.proofs.Spelled.{rings-text}
@@ -29,12 +29,12 @@ use Rattle.report.specs.Report.{tableWords, listWords, textBytes, ringsT
 use Rattle.report.proofs.Fits.{refusal-fits, listing-text-fits}
 
 -- a text that is written from the first byte on stands there, where it fits
-stood : (text before after : List ℕ) (p : Pen) → page p after ≡ putAll text (page start before) → length text ≤ length before → Stands text before after (p .at)
+stood : (text before after : List ℕ) (p : Pen) → page p after ≡ putAll text (page firstPen before) → length text ≤ length before → Stands text before after (p .at)
 stood text before after p h fits =
     let e = h ∙ text-fits text before fits in
     record { long = ap (λ (s : Page). s .pen .at) e; front = ap (λ (s : Page). s .bytes) e }
 
-pub refusal-stands : (a : Answer) (before after : List ℕ) (p : Pen) → textBytes ≤ length before → page p after ≡ putAll (refusalText a) (page start before) → Stands (refusalText a) before after (p .at)
+pub refusal-stands : (a : Answer) (before after : List ℕ) (p : Pen) → textBytes ≤ length before → page p after ≡ putAll (refusalText a) (page firstPen before) → Stands (refusalText a) before after (p .at)
 refusal-stands a before after p room h = stood (refusalText a) before after p h (refusal-fits a before room)
 
 -- a ring's line for each ring of the list
@@ -100,7 +100,7 @@ module _ (n bonds : ℕ) (t d d′ l l′ : List ℕ) (c : Census) (N : IsNetwor
     lists-refusal bytes z S = record { text = refusalText (c .answer); lists = text-refused z; stands = S }
 
     pub lists-rings : (p : Pen) → code c ≡ 0 → textBytes ≤ length before
-        → page p after ≡ putAll (listingText n bonds (take (c .words) l′) (c .counts) (c .total)) (page start before) → ListsText n bonds t before after (p .at)
+        → page p after ≡ putAll (listingText n bonds (take (c .words) l′) (c .counts) (c .total)) (page firstPen before) → ListsText n bonds t before after (p .at)
     lists-rings p z room h =
         let text = listingText n bonds (take (c .words) l′) (c .counts) (c .total) in
         record {
@@ -110,7 +110,7 @@ module _ (n bonds : ℕ) (t d d′ l l′ : List ℕ) (c : Census) (N : IsNetwor
         }
 
 -- reading a file into a table of the most words, and listing the network that it gives, gives the file's text
-module _ (file table table′ : List ℕ) (r : Reading) (R : Reads file table table′ r) (words : length table ≡ tableWords) where
+module _ (file table table′ : List ℕ) (r : FileRead) (R : ReadOutcome file table table′ r) (words : length table ≡ tableWords) where
   verdict-is : r .answer ≡ readVerdict file tableWords
   verdict-is = R .verdict ∙ ap (readVerdict file) words
 

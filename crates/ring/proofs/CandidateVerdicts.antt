@@ -24,7 +24,7 @@ use Rattle.network.proofs.Bonds.{bonded-from}
 use Rattle.ring.specs.Maxima.{ringLeast, ringMost}
 use Rattle.ring.specs.Firsts.{firstOf}
 use Rattle.ring.specs.Writes.{notRing, lengthOf}
-use Rattle.ring.specs.CandidateVerdict.{outside, firstWith, seen, placeOf, apart, firstPlace, ringVerdict, candidateVerdict, AtomsBelow}
+use Rattle.ring.specs.CandidateVerdict.{outside, firstWith, seenBefore, placeOf, notBonded, firstPlace, ringVerdict, candidateVerdict, AtomsBelow}
 use Rattle.ring.specs.RightCandidate.{RightCandidate}
 use Rattle.ring.proofs.Firsts.{first-of}
 use Rattle.ring.proofs.Readers.{long-enough, no-length, some-length, right-length}
@@ -54,25 +54,25 @@ module _ (n : ℕ) (t r : List ℕ) (a : Answer) (m : ℕ) (e : m ≡ lengthOf (
       unfolding ringVerdict
       says-15 l h = h ∙ sym (rw size (place-found 15 (length r) (outside n r) _ x ex l))
 
-      module _ (lx : length r ≤ x) (y : ℕ) (ey : y ≡ firstOf (seen r) (length r) 0) where
+      module _ (lx : length r ≤ x) (y : ℕ) (ey : y ≡ firstOf (seenBefore r) (length r) 0) where
         clean-15 : (later : Answer) → firstPlace 15 (outside n r) (length r) later ≡ later
         clean-15 later = place-clean 15 (length r) (outside n r) later x ex lx
 
         pub says-16 : y < length r → a ≡ answer 16 0 y → a ≡ ringVerdict n t r
         unfolding ringVerdict
-        says-16 l h = h ∙ sym (rw size (clean-15 _ ∙ place-found 16 (length r) (seen r) _ y ey l))
+        says-16 l h = h ∙ sym (rw size (clean-15 _ ∙ place-found 16 (length r) (seenBefore r) _ y ey l))
 
-        module _ (ly : length r ≤ y) (w : ℕ) (ew : w ≡ firstOf (apart t r) (length r) 0) where
-          clean-16 : (later : Answer) → firstPlace 16 (seen r) (length r) later ≡ later
-          clean-16 later = place-clean 16 (length r) (seen r) later y ey ly
+        module _ (ly : length r ≤ y) (w : ℕ) (ew : w ≡ firstOf (notBonded t r) (length r) 0) where
+          clean-16 : (later : Answer) → firstPlace 16 (seenBefore r) (length r) later ≡ later
+          clean-16 later = place-clean 16 (length r) (seenBefore r) later y ey ly
 
           pub says-17 : w < length r → a ≡ answer 17 0 w → a ≡ ringVerdict n t r
           unfolding ringVerdict
-          says-17 l h = h ∙ sym (rw size (clean-15 _ ∙ clean-16 _ ∙ place-found 17 (length r) (apart t r) _ w ew l))
+          says-17 l h = h ∙ sym (rw size (clean-15 _ ∙ clean-16 _ ∙ place-found 17 (length r) (notBonded t r) _ w ew l))
 
           pub says-ring : length r ≤ w → a ≡ accepted → a ≡ ringVerdict n t r
           unfolding ringVerdict
-          says-ring l h = h ∙ sym (rw size (clean-15 _ ∙ clean-16 _ ∙ place-clean 17 (length r) (apart t r) _ w ew l))
+          says-ring l h = h ∙ sym (rw size (clean-15 _ ∙ clean-16 _ ∙ place-clean 17 (length r) (notBonded t r) _ w ew l))
 
 -- all checks; s is the answer of the sizes
 module _ (n : ℕ) (t r d : List ℕ) where
@@ -139,13 +139,13 @@ module _ (n : ℕ) (t : List ℕ) (N : IsNetwork n t) (x y : ℕ) where
         | no l ↦ absurd (eqb-false (word t x (b .place)) y (F .none (b .place) (omega arith) (omega (arith, b .in-row))) (b .stands))
       ]
 
--- 16: none is seen earlier
-pub different-of : (r : List ℕ) (j : ℕ) → seen r j ≡ false → (i : ℕ) → i < j → getD r i 0 ≢ getD r j 0
+-- 16: none stands earlier
+pub different-of : (r : List ℕ) (j : ℕ) → seenBefore r j ≡ false → (i : ℕ) → i < j → getD r i 0 ≢ getD r j 0
 different-of r j h i l e =
     let F = first-of (λ i. eqb (getD r i 0) (getD r j 0)) j 0 in
     eqb-false (getD r i 0) (getD r j 0) (F .none i (omega arith) (omega (arith, ltb-false (firstWith r j) j h))) e
 
-pub of-different : (r : List ℕ) (j : ℕ) → ((i : ℕ) → i < j → getD r i 0 ≢ getD r j 0) → seen r j ≡ false
+pub of-different : (r : List ℕ) (j : ℕ) → ((i : ℕ) → i < j → getD r i 0 ≢ getD r j 0) → seenBefore r j ≡ false
 of-different r j h =
     let F = first-of (λ i. eqb (getD r i 0) (getD r j 0)) j 0 in
     elim (decLt (firstWith r j) j) [
@@ -165,8 +165,8 @@ module _ (n : ℕ) (t : List ℕ) (N : IsNetwork n t) (r : List ℕ) where
   record Sound : Type 0 where
     size : notRing (length r) ≡ false
     inside : (i : ℕ) → i < length r → outside n r i ≡ false
-    once : (i : ℕ) → i < length r → seen r i ≡ false
-    joined : (i : ℕ) → i < length r → apart t r i ≡ false
+    once : (i : ℕ) → i < length r → seenBefore r i ≡ false
+    joined : (i : ℕ) → i < length r → notBonded t r i ≡ false
 
   ring-of : Sound → Ring (Bonded t) 0 r × (length r ≤ ringMost)
   ring-of S = (
@@ -209,8 +209,8 @@ module _ (n : ℕ) (t : List ℕ) (N : IsNetwork n t) (r : List ℕ) where
   sound-says S =
       rw (S .size)
       (place-clean 15 (length r) (outside n r) _ _ refl (all-good (outside n r) (length r) (S .inside))
-      ∙ place-clean 16 (length r) (seen r) _ _ refl (all-good (seen r) (length r) (S .once))
-      ∙ place-clean 17 (length r) (apart t r) _ _ refl (all-good (apart t r) (length r) (S .joined)))
+      ∙ place-clean 16 (length r) (seenBefore r) _ _ refl (all-good (seenBefore r) (length r) (S .once))
+      ∙ place-clean 17 (length r) (notBonded t r) _ _ refl (all-good (notBonded t r) (length r) (S .joined)))
 
   places-passed : (c k : ℕ) (bad : ℕ → Bool) (later : Answer) → (c ≡ 0 → ⊥) → firstPlace c bad k later .code ≡ 0 → ((i : ℕ) → i < k → bad i ≡ false) × (later .code ≡ 0)
   places-passed c k bad later z e =
@@ -224,8 +224,8 @@ module _ (n : ℕ) (t : List ℕ) (N : IsNetwork n t) (r : List ℕ) where
   sound-of z =
       let a = not-refused 14 _ _ (omega arith) z in
       let b = places-passed 15 (length r) (outside n r) _ (omega arith) (a .1) in
-      let c = places-passed 16 (length r) (seen r) _ (omega arith) (b .1) in
-      let d = places-passed 17 (length r) (apart t r) _ (omega arith) (c .1) in
+      let c = places-passed 16 (length r) (seenBefore r) _ (omega arith) (b .1) in
+      let d = places-passed 17 (length r) (notBonded t r) _ (omega arith) (c .1) in
       record { size = a .0; inside = b .0; once = c .0; joined = d .0 }
 
   pub ring-exactly : (ringVerdict n t r .code ≡ 0) ↔ (Ring (Bonded t) 0 r × (length r ≤ ringMost))

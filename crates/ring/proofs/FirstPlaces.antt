@@ -18,7 +18,7 @@ use Rattle.network.proofs.Chains.{check-says, in-range, range-true, range-false
 use Rattle.ring.specs.Maxima.{ringLeast, ringMost}
 use Rattle.ring.specs.Firsts.{firstOf}
 use Rattle.ring.specs.Writes.{notRing}
-use Rattle.ring.specs.CandidateVerdict.{outside, firstWith, seen, placeOf, apart, firstPlace, ringVerdict, candidateVerdict}
+use Rattle.ring.specs.CandidateVerdict.{outside, firstWith, seenBefore, placeOf, notBonded, firstPlace, ringVerdict, candidateVerdict}
 use Rattle.ring.specs.FirstPlaces.{Sized, NotAtom, Repeated, Unbonded}
 use Rattle.ring.proofs.Firsts.{first-of}
 use Rattle.ring.proofs.CandidateVerdicts.{bonded-of, of-bonded, different-of}
@@ -40,7 +40,7 @@ places-says c bad k later Bad Later f g rest = go (decLt (firstOf bad k 0) k)
         let none : (i : ℕ) → i < k → Bad i → ⊥ = λ i m. g i m (F i (omega arith)) in
         rw (le-ltb (firstOf bad k 0) k (omega arith)) (places-right c Bad k Later later none (rest none))
 
-seen-says : (r : List ℕ) (j : ℕ) → seen r j ≡ true → Repeated r j
+seen-says : (r : List ℕ) (j : ℕ) → seenBefore r j ≡ true → Repeated r j
 seen-says r j h =
     let F = first-of (λ i. eqb (getD r i 0) (getD r j 0)) j 0 in
     let l : firstWith r j < j = ltb-true (firstWith r j) j h in
@@ -53,8 +53,8 @@ unfolding ringVerdict
 ring-says n t r N =
     check-says 14 (notRing (length r)) _ (Sized (length r)) _ (in-range ringLeast ringMost (length r)) (λ h. ap not (range-true ringLeast ringMost (length r) h)) (λ h. ap not (range-false ringLeast ringMost (length r) h)) λ _.
     places-says 15 (outside n r) (length r) _ (NotAtom n r) _ (λ i l e. leb-true n (getD r i 0) e) (λ i l e h. omega (arith, leb-false n (getD r i 0) e, h)) λ below.
-    places-says 16 (seen r) (length r) _ (Repeated r) _ (λ i l e. seen-says r i e) (λ j l e s. different-of r j e (s .0) (s .1) (s .2)) λ _.
-    places-says 17 (apart t r) (length r) accepted (Unbonded t r) Accepted
+    places-says 16 (seenBefore r) (length r) _ (Repeated r) _ (λ i l e. seen-says r i e) (λ j l e s. different-of r j e (s .0) (s .1) (s .2)) λ _.
+    places-says 17 (notBonded t r) (length r) accepted (Unbonded t r) Accepted
     (λ i l e b. omega (arith, of-bonded n t N (getD r i 0) (getD r ((i + 1) % length r) 0) b, leb-true places (placeOf t (getD r i 0) (getD r ((i + 1) % length r) 0)) e))
     (λ i l e h. h (bonded-of n t N (getD r i 0) (getD r ((i + 1) % length r) 0) (inside below i l) (inside below ((i + 1) % length r) (mod-lt (i + 1) (omega arith))) (leb-false places _ e)))
     (λ _. refl)

@@ -14,7 +14,7 @@ use borrow.Author.Tests.{le-leb, lt-leb}
 use Rattle.graph.proofs.Lists.{length-made, getD-made}
 use Rattle.graph.proofs.Writings.{onwards-written, backwards-written}
 use Rattle.ring.specs.Maxima.{ringLeast, ringMost}
-use Rattle.ring.specs.Writes.{padded, notRing, lengthOf, atomsOf, placeAt, readFrom, lengthFrom, atomsFrom, Writes}
+use Rattle.ring.specs.Writes.{padded, notRing, lengthOf, ringWords, placeAt, readFrom, lengthFrom, atomsFrom, WritingPadded}
 
 -- the lengths of rings
 pub too-short : (k : ℕ) → k < ringLeast → notRing k ≡ true
@@ -148,11 +148,11 @@ module _ (r : List ℕ) (start : ℕ) (onwards : Bool) where
       unfolding atomsFrom
       words-from = rw (long-enough (length r) l k, lt-leb (length r) start h)
 
-pub from-start : (r : List ℕ) → (lengthFrom (length r) 0 ≡ lengthOf (length r)) × (atomsFrom r 0 true ≡ atomsOf r)
-unfolding lengthFrom lengthOf atomsFrom atomsOf
+pub from-start : (r : List ℕ) → (lengthFrom (length r) 0 ≡ lengthOf (length r)) × (atomsFrom r 0 true ≡ ringWords r)
+unfolding lengthFrom lengthOf atomsFrom ringWords
 from-start r = go (notRing (length r)) refl
   where
-    go : (b : Bool) → notRing (length r) ≡ b → (lengthFrom (length r) 0 ≡ lengthOf (length r)) × (atomsFrom r 0 true ≡ atomsOf r)
+    go : (b : Bool) → notRing (length r) ≡ b → (lengthFrom (length r) 0 ≡ lengthOf (length r)) × (atomsFrom r 0 true ≡ ringWords r)
     go true h = rw h (refl, refl)
     go false h = let some : 0 < length r = omega (arith, right-length (length r) h .0) in rw (h, lt-leb (length r) 0 some) (refl, ap padded (reading-itself r))
 
@@ -161,7 +161,7 @@ module _ (r : List ℕ) (h : ringLeast ≤ length r) (d : (i j : ℕ) → i < j 
     (m : ℕ) (lm : m < length r) (least : (i : ℕ) → i < length r → getD r m 0 ≤ getD r i 0) (words : List ℕ) where
   -- the places next to it, before and after
   module _ (u v : ℕ) (eu : u ≡ placeAt (length r) m true 1) (ev : v ≡ placeAt (length r) m false 1) where
-    pub writes-onwards : getD r u 0 < getD r v 0 → words ≡ padded (readFrom r m true) → Writes r words
+    pub writes-onwards : getD r u 0 < getD r v 0 → words ≡ padded (readFrom r m true) → WritingPadded r words
     unfolding placeAt
     writes-onwards c e = record {
       writing = readFrom r m true;
@@ -170,7 +170,7 @@ module _ (r : List ℕ) (h : ringLeast ≤ length r) (d : (i j : ℕ) → i < j 
       filled = e;
     }
 
-    pub writes-backwards : getD r v 0 ≤ getD r u 0 → words ≡ padded (readFrom r m false) → Writes r words
+    pub writes-backwards : getD r v 0 ≤ getD r u 0 → words ≡ padded (readFrom r m false) → WritingPadded r words
     unfolding placeAt
     writes-backwards c e = record {
       writing = readFrom r m false;

@@ -2,9 +2,9 @@
 --
 --   outside n r i                  15: the atom at place i is not below n
 --   firstWith r j                  the first place that has the atom of place j, at most j
---   seen r j                       16: the atom at place j stands earlier too
+--   seenBefore r j                 16: the atom at place j stands earlier too
 --   placeOf t x y                  the first place of row x that holds y, or 8
---   apart t r i                    17: the atom at place i is not bonded to the next, the last to the first
+--   notBonded t r i                17: the atom at place i is not bonded to the next, the last to the first
 --   firstPlace code bad k later    refusal `code` with the first bad place of k, else what comes later
 --   ringVerdict n t r              14, then 15 over all places, 16 over all, 17 over all
 --   candidateVerdict n t r d       1, 4, 5, 7 to 11, then 14 to 17
@@ -27,14 +27,14 @@ outside n r i = leb n (getD r i 0)
 abbrev pub firstWith : List ℕ → ℕ → ℕ
 firstWith r j = firstOf (λ i. eqb (getD r i 0) (getD r j 0)) j 0
 
-abbrev pub seen : List ℕ → ℕ → Bool
-seen r j = ltb (firstWith r j) j
+abbrev pub seenBefore : List ℕ → ℕ → Bool
+seenBefore r j = ltb (firstWith r j) j
 
 abbrev pub placeOf : List ℕ → ℕ → ℕ → ℕ
 placeOf t x y = firstOf (λ p. eqb (word t x p) y) places 0
 
-abbrev pub apart : List ℕ → List ℕ → ℕ → Bool
-apart t r i = leb places (placeOf t (getD r i 0) (getD r ((i + 1) % length r) 0))
+abbrev pub notBonded : List ℕ → List ℕ → ℕ → Bool
+notBonded t r i = leb places (placeOf t (getD r i 0) (getD r ((i + 1) % length r) 0))
 
 abbrev pub firstPlace : ℕ → (ℕ → Bool) → ℕ → Answer → Answer
 firstPlace code bad k later = cond (ltb (firstOf bad k 0) k) (answer code 0 (firstOf bad k 0)) later
@@ -43,8 +43,8 @@ unfoldable pub ringVerdict : ℕ → List ℕ → List ℕ → Answer
 ringVerdict n t r =
     check 14 (notRing (length r))
     (firstPlace 15 (outside n r) (length r)
-    (firstPlace 16 (seen r) (length r)
-    (firstPlace 17 (apart t r) (length r)
+    (firstPlace 16 (seenBefore r) (length r)
+    (firstPlace 17 (notBonded t r) (length r)
     accepted)))
 
 unfoldable pub candidateVerdict : ℕ → List ℕ → List ℕ → List ℕ → Answer

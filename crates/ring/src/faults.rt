@@ -9,7 +9,7 @@ ghost use Rattle.network.specs.Maxima.{atomsMost, places};
 ghost use Rattle.network.specs.Network.{IsNetwork};
 ghost use Rattle.network.specs.Verdict.{answer};
 ghost use Rattle.ring.specs.Firsts.{firstOf};
-ghost use Rattle.ring.specs.CandidateVerdict.{outside, firstWith, seen, placeOf, apart, ringVerdict, candidateVerdict, AtomsBelow};
+ghost use Rattle.ring.specs.CandidateVerdict.{outside, firstWith, seenBefore, placeOf, notBonded, ringVerdict, candidateVerdict, AtomsBelow};
 
 // The first of refusals 1, 4, 5, 7 to 11, and 14 to 17.
 pub fn faults_of(n: usize, table: &[u16], ring: &[u16], dist: &[u8]) -> Answer
@@ -80,7 +80,7 @@ fn first_outside(n: usize, ring: &[u16]) -> usize
 
 // The first place whose atom stands earlier too, or the length.
 fn first_repeated(ring: &[u16]) -> usize
-    ensures { λ r. ⌜ r ≡ firstOf (seen (now (ring .entry))) (length (now (ring .entry))) 0 ⌝ }
+    ensures { λ r. ⌜ r ≡ firstOf (seenBefore (now (ring .entry))) (length (now (ring .entry))) 0 ⌝ }
 {
     let mut j = 0;
     while j < ring.len() {
@@ -111,7 +111,7 @@ fn first_with(ring: &[u16], j: usize) -> usize
 // The first place whose atom is not bonded to the next, or the length.
 fn first_apart(n: usize, table: &[u16], ring: &[u16]) -> usize
     requires { ⌜ (n ≤ atomsMost) × (length (now table) ≡ places * n) × AtomsBelow n (now ring) ⌝ }
-    ensures { λ r. ⌜ r ≡ firstOf (apart (now (table .entry)) (now (ring .entry))) (length (now (ring .entry))) 0 ⌝ }
+    ensures { λ r. ⌜ r ≡ firstOf (notBonded (now (table .entry)) (now (ring .entry))) (length (now (ring .entry))) 0 ⌝ }
 {
     let mut i = 0;
     while i < ring.len() {

@@ -7,7 +7,7 @@ ghost use Prim.Native.Nat.{_+_, _-_, _^_, _≤_, _<_, min};
 ghost use lib.ListN.{length, replicate};
 ghost use Rattle.graph.specs.Graph.{around};
 ghost use Rattle.ring.specs.Maxima.{ringLeast, ringMost, limitDefault, allowanceMost};
-ghost use Rattle.ring.specs.Writes.{lengthOf, atomsOf, lengthFrom, atomsFrom};
+ghost use Rattle.ring.specs.Writes.{lengthOf, ringWords, lengthFrom, atomsFrom};
 
 // A ring of `len` atoms, in order round the ring; the words after them are 0.
 pub struct Ring {
@@ -30,7 +30,7 @@ impl Ring {
 
     // A ring of these atoms, or of none where they are too few or too many.
     pub fn of(words: &[u16]) -> Ring
-        ensures { λ r. ⌜ (r .len ≡ lengthOf (length (now (words .entry)))) × (r .atoms ≡ atomsOf (now (words .entry))) ⌝ }
+        ensures { λ r. ⌜ (r .len ≡ lengthOf (length (now (words .entry)))) × (r .atoms ≡ ringWords (now (words .entry))) ⌝ }
     {
         Ring::read(words, 0, true)
     }

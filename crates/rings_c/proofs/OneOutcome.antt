@@ -4,7 +4,7 @@ use mathlib.Core.Path.{_≡_, sym, _∙_, ap}
 use mathlib.Core.List.{List}
 use Prim.Native.Nat.{ℕ}
 use Rattle.candidate.specs.CandidateOutcome.{CandidateOutcome}
-use Rattle.candidate.proofs.Outcomes as ring
+use Rattle.candidate.proofs.Outcomes.{outcome-unique}
 use Rattle.census.specs.Census.{CountOutcome, ListOutcome}
 use Rattle.census.proofs.OneOutcome as search
 use Rattle.rings_c.specs.declared.FlatCensus.{FlatCensus}
@@ -21,7 +21,7 @@ flat-once flat C D Same once r s P Q =
 module _ (n : ℕ) (t : List ℕ) where
   pub test-once : (candidate before after after′ : List ℕ) (r s : FlatCandidate) → PassedOn flatCandidate (CandidateOutcome n t candidate before after) r
       → PassedOn flatCandidate (CandidateOutcome n t candidate before after′) s → (r ≡ s) × (after ≡ after′)
-  test-once candidate before after after′ = flat-once flatCandidate _ _ _ (ring.outcome-unique n t candidate before after after′)
+  test-once candidate before after after′ = flat-once flatCandidate _ _ _ (outcome-unique n t candidate before after after′)
 
   module _ (limit allowance : ℕ) (before after after′ : List ℕ) where
     pub count-once : (r s : FlatCensus) → PassedOn flatCensus (CountOutcome n t limit allowance before after) r

@@ -10,7 +10,7 @@ use lib.Ieee.{Float}
 use Rattle.candidate.specs.declared.Shortest.{Shortest}
 use Rattle.candidate.specs.declared.Shortest.the-variants.{Yes, No, Refused}
 use Rattle.candidate.specs.declared.Tested.{Tested}
-use Rattle.candidate.specs.CandidateOutcome.{values, Says, CandidateOutcome}
+use Rattle.candidate.specs.CandidateOutcome.{values, RightValues, CandidateOutcome}
 use Rattle.candidate.proofs.Values.{values-tell}
 use Rattle.census.specs.declared.Mean.{Mean}
 use Rattle.census.specs.declared.Mean.the-variants.{Of, NoRings}
@@ -50,7 +50,7 @@ toldShortest (suc code) is first second = Refused
 abbrev pub toldTested : FlatCandidate → Tested
 toldTested r = record { answer = r .answer; shortest = toldShortest (r .answer .code) (r .yes) (r .first) (r .second); writing = r .writing }
 
-says-something : (t r words : List ℕ) → Says t r (values Refused) words → ⊥
+says-something : (t r words : List ℕ) → RightValues t r (values Refused) words → ⊥
 says-something t r words (inl a) = omega (arith, a .0)
 says-something t r words (inr a) = omega (arith, a .0)
 

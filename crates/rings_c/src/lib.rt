@@ -4,19 +4,19 @@
 // answer that holds an enum as a flat struct.
 mod flat;
 
-use bnw::Reading;
-use bnw::Written;
+use bnw::FileRead;
+use bnw::FileWritten;
 use network::Answer;
 use ring::Ring;
 ghost use mathlib.Core.Path.{_≡_};
 ghost use Rattle.network.specs.Verdict.{verdict};
 ghost use Rattle.candidate.specs.CandidateOutcome.{CandidateOutcome};
 ghost use Rattle.census.specs.Census.{CountOutcome, ListOutcome};
-ghost use Rattle.bnw.specs.Reading.{Reads};
-ghost use Rattle.bnw.specs.Writing.{Writes};
+ghost use Rattle.bnw.specs.Reading.{ReadOutcome};
+ghost use Rattle.bnw.specs.Writing.{WriteOutcome};
 ghost use Rattle.report.specs.Report.{Responds};
-ghost use Rattle.distance.specs.Outcome as distance;
-ghost use Rattle.renumber.specs.Outcome as renumber;
+ghost use Rattle.distance.specs.Outcome.{DistancesOutcome};
+ghost use Rattle.renumber.specs.Outcome.{RenumberOutcome};
 ghost use Rattle.rings_c.specs.Flat.{flatCensus, flatCandidate, PassedOn};
 
 // What counting and listing answer.
@@ -63,7 +63,7 @@ pub extern "C" fn rings_validate(n: usize, table: &[u16]) -> Answer
 // The distances between all atoms.
 #[no_mangle]
 pub extern "C" fn rings_distances(n: usize, table: &[u16], dist: &mut [u8]) -> Answer
-    ensures { λ r. ⌜ distance.Outcome n (now (table .entry)) (now (dist .entry)) (now (dist .exit)) r ⌝ }
+    ensures { λ r. ⌜ DistancesOutcome n (now (table .entry)) (now (dist .entry)) (now (dist .exit)) r ⌝ }
 {
     distance::distances(n, table, dist)
 }
@@ -121,23 +121,23 @@ pub extern "C" fn rings_renumber(
     names: &[u16],
     renamed: &mut [u16],
 ) -> Answer
-    ensures { λ r. ⌜ renumber.Outcome n (now (table .entry)) (now (names .entry)) (now (renamed .entry)) (now (renamed .exit)) r ⌝ }
+    ensures { λ r. ⌜ RenumberOutcome n (now (table .entry)) (now (names .entry)) (now (renamed .entry)) (now (renamed .exit)) r ⌝ }
 {
     renumber::renumber(n, table, names, renamed)
 }
 
 // The network of a file.
 #[no_mangle]
-pub extern "C" fn rings_read(file: &[u8], table: &mut [u16]) -> Reading
-    ensures { λ r. ⌜ Reads (now (file .entry)) (now (table .entry)) (now (table .exit)) r ⌝ }
+pub extern "C" fn rings_read(file: &[u8], table: &mut [u16]) -> FileRead
+    ensures { λ r. ⌜ ReadOutcome (now (file .entry)) (now (table .entry)) (now (table .exit)) r ⌝ }
 {
     bnw_reader::read(file, table)
 }
 
 // The file of a network.
 #[no_mangle]
-pub extern "C" fn rings_write(n: usize, table: &[u16], file: &mut [u8]) -> Written
-    ensures { λ r. ⌜ Writes n (now (table .entry)) (now (file .entry)) (now (file .exit)) r ⌝ }
+pub extern "C" fn rings_write(n: usize, table: &[u16], file: &mut [u8]) -> FileWritten
+    ensures { λ r. ⌜ WriteOutcome n (now (table .entry)) (now (file .entry)) (now (file .exit)) r ⌝ }
 {
     bnw_writer::write(n, table, file)
 }

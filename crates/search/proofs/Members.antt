@@ -11,7 +11,7 @@ use lib.ListN.{length, getD, length-append, List·getD-append}
 use lib.Seq.{getD-append-seam, append-snoc}
 use borrow.Author.Tests.{lt-ltb, ltb-true, eq-eqb, eqb-true}
 use Rattle.network.specs.Maxima.{places}
-use Rattle.search.specs.Search.{Test, Tests, pairFits, fitsBefore, everyPair, isRing, follows, placeOf, goesOn, ended, extend, ringsFrom, ringsOf}
+use Rattle.search.specs.Search.{Test, Tests, pairFits, fitsBefore, everyPair, isRing, follows, nextWord, goesOn, ended, extend, ringsFrom, ringsOf}
 use Rattle.search.specs.Shortest.{Chain, Shortest, Harmless}
 use Rattle.search.proofs.Below.{all-intro, all-elim, gather-intro, gather-elim}
 
@@ -51,7 +51,7 @@ module _ (n : ℕ) (table dist : List ℕ) (k : ℕ) where
         let here : getD r (length p) 0 ≡ a = rw e (at-last p a s) in
         rw (lt-ltb (getD p 0 0) a (rw (← here, ← before p (a ∷ s) e 0 some) (h .chain .least (length p) some long))) (harmless r h p a s some e)
 
-    place : (p : List ℕ) (a : ℕ) (s : List ℕ) → 0 < length p → r ≡ p ++ (a ∷ s) → (j : ℕ) × (j < places) × (placeOf table p j ≡ a)
+    place : (p : List ℕ) (a : ℕ) (s : List ℕ) → 0 < length p → r ≡ p ++ (a ∷ s) → (j : ℕ) × (j < places) × (nextWord table p j ≡ a)
     place p a s some e =
         let i : ℕ = length p - 1 in
         let next : i + 1 ≡ length p = omega arith in
@@ -61,7 +61,7 @@ module _ (n : ℕ) (table dist : List ℕ) (k : ℕ) where
         let here : getD r (i + 1) 0 ≡ a = rw (next, e) (at-last p a s) in
         (b .0, b .1, rw (← last) (b .2 ∙ here))
 
-    goes : (p : List ℕ) (a : ℕ) (s : List ℕ) → 0 < length p → r ≡ p ++ (a ∷ s) → (j : ℕ) → placeOf table p j ≡ a → goesOn may n table p j ≡ true
+    goes : (p : List ℕ) (a : ℕ) (s : List ℕ) → 0 < length p → r ≡ p ++ (a ∷ s) → (j : ℕ) → nextWord table p j ≡ a → goesOn may n table p j ≡ true
     unfolding goesOn
     goes p a s some e j q =
         let long : length p < length r = rw (e, length-append p (a ∷ s)) (omega arith) in
@@ -81,7 +81,7 @@ module _ (n : ℕ) (table dist : List ℕ) (k : ℕ) where
 
 -- what is listed is a shortest-path ring
 
-pub chain-more : (n : ℕ) (table : List ℕ) (p : List ℕ) (a j : ℕ) → 0 < length p → Chain n table p → j < places → placeOf table p j ≡ a → a < n → getD p 0 0 < a → Chain n table (p ++ (a ∷ []))
+pub chain-more : (n : ℕ) (table : List ℕ) (p : List ℕ) (a j : ℕ) → 0 < length p → Chain n table p → j < places → nextWord table p j ≡ a → a < n → getD p 0 0 < a → Chain n table (p ++ (a ∷ []))
 chain-more n table p a j some w lt q small first = record { atoms = atoms; bonded = bonded; least = least }
   where
     more : length (p ++ (a ∷ [])) ≡ suc (length p)
@@ -120,13 +120,13 @@ module _ (n : ℕ) (table dist : List ℕ) (k : ℕ) (may : Test) where
   sound-from (suc left) p r some w e m =
       let g = gather-elim _ places m in go (λ p′ some′ w′ e′ m′. sound-from left p′ r some′ w′ e′ m′) (g .0) (g .1) (goesOn may n table p (g .0)) refl (g .2)
     where
-      go : ((p′ : List ℕ) → 0 < length p′ → Chain n table p′ → length p′ + left ≡ k → List·Memᴰ r (extend may n table dist k left p′) → Shortest n table dist k r) → (j : ℕ) → j < places → (b : Bool) → goesOn may n table p j ≡ b → List·Memᴰ r (cond b (extend may n table dist k left (p ++ (placeOf table p j ∷ []))) []) → Shortest n table dist k r
+      go : ((p′ : List ℕ) → 0 < length p′ → Chain n table p′ → length p′ + left ≡ k → List·Memᴰ r (extend may n table dist k left p′) → Shortest n table dist k r) → (j : ℕ) → j < places → (b : Bool) → goesOn may n table p j ≡ b → List·Memᴰ r (cond b (extend may n table dist k left (p ++ (nextWord table p j ∷ []))) []) → Shortest n table dist k r
       go rec j lt true q m′ =
           let b = and-eq-true-iff _ _ .0 q in
           let f = and-eq-true-iff _ _ .0 (b .1) in
-          let long : length (p ++ (placeOf table p j ∷ [])) ≡ suc (length p) = length-append p _ ∙ add-one (length p) in
-          rec (p ++ (placeOf table p j ∷ [])) (omega arith)
-          (chain-more n table p (placeOf table p j) j some w lt refl (ltb-true _ _ (b .0)) (ltb-true _ _ (f .0)))
+          let long : length (p ++ (nextWord table p j ∷ [])) ≡ suc (length p) = length-append p _ ∙ add-one (length p) in
+          rec (p ++ (nextWord table p j ∷ [])) (omega arith)
+          (chain-more n table p (nextWord table p j) j some w lt refl (ltb-true _ _ (b .0)) (ltb-true _ _ (f .0)))
           (omega arith) m′
       go rec j lt false q m′ = absurd (List·Memᴰ·not-nil m′)
 

@@ -15,7 +15,7 @@ use Rattle.graph.proofs.Lists.{append-ascending}
 use Rattle.network.specs.Maxima.{places}
 use Rattle.network.specs.Network.{word, IsNetwork}
 use Rattle.ring.specs.Maxima.{ringLeast}
-use Rattle.search.specs.Search.{Test, Tests, gatherBelow, isRing, placeOf, goesOn, ended, extend, ringsFrom, ringsOf, ringsUpTo}
+use Rattle.search.specs.Search.{Test, Tests, gatherBelow, isRing, nextWord, goesOn, ended, extend, ringsFrom, ringsOf, ringsUpTo}
 use Rattle.search.proofs.Below.{gather-elim}
 use Rattle.search.proofs.Members.{at-last, listed-only}
 
@@ -53,17 +53,17 @@ module _ (n : ℕ) (table dist : List ℕ) (k : ℕ) (may : Test) where
       let g = gather-elim _ places m in go (λ p′ m′. begins left p′ r m′) (g .0) (goesOn may n table p (g .0)) (g .2)
     where
       go : ((p′ : List ℕ) → r ∈ (extend may n table dist k left p′) → (s : List ℕ) × (r ≡ p′ ++ s)) → (j : ℕ) (b : Bool)
-          → r ∈ (cond b (extend may n table dist k left (p ++ (placeOf table p j ∷ []))) []) → (s : List ℕ) × (r ≡ p ++ s)
-      go rec j true m′ = let q = rec _ m′ in (placeOf table p j ∷ q .0, q .1 ∙ append-snoc p (placeOf table p j) (q .0))
+          → r ∈ (cond b (extend may n table dist k left (p ++ (nextWord table p j ∷ []))) []) → (s : List ℕ) × (r ≡ p ++ s)
+      go rec j true m′ = let q = rec _ m′ in (nextWord table p j ∷ q .0, q .1 ∙ append-snoc p (nextWord table p j) (q .0))
       go rec j false m′ = absurd (List·Memᴰ·not-nil m′)
 
-  branch-of : (left : ℕ) (p r : List ℕ) (j : ℕ) → r ∈ (cond (goesOn may n table p j) (extend may n table dist k left (p ++ (placeOf table p j ∷ []))) [])
-      → (s : List ℕ) × (r ≡ p ++ (placeOf table p j ∷ s)) × (placeOf table p j < n)
+  branch-of : (left : ℕ) (p r : List ℕ) (j : ℕ) → r ∈ (cond (goesOn may n table p j) (extend may n table dist k left (p ++ (nextWord table p j ∷ []))) [])
+      → (s : List ℕ) × (r ≡ p ++ (nextWord table p j ∷ s)) × (nextWord table p j < n)
   unfolding goesOn
   branch-of left p r j m = go (goesOn may n table p j) refl m
     where
-      go : (b : Bool) → goesOn may n table p j ≡ b → r ∈ (cond b (extend may n table dist k left (p ++ (placeOf table p j ∷ []))) []) → (s : List ℕ) × (r ≡ p ++ (placeOf table p j ∷ s)) × (placeOf table p j < n)
-      go true e m′ = let q = begins left _ r m′ in (q .0, q .1 ∙ append-snoc p (placeOf table p j) (q .0), ltb-true _ _ (and-eq-true-iff _ _ .0 e .0))
+      go : (b : Bool) → goesOn may n table p j ≡ b → r ∈ (cond b (extend may n table dist k left (p ++ (nextWord table p j ∷ []))) []) → (s : List ℕ) × (r ≡ p ++ (nextWord table p j ∷ s)) × (nextWord table p j < n)
+      go true e m′ = let q = begins left _ r m′ in (q .0, q .1 ∙ append-snoc p (nextWord table p j) (q .0), ltb-true _ _ (and-eq-true-iff _ _ .0 e .0))
       go false e m′ = absurd (List·Memᴰ·not-nil m′)
 
   module _ (rows : Rows n table) where
@@ -80,14 +80,14 @@ module _ (n : ℕ) (table dist : List ℕ) (k : ℕ) (may : Test) where
         (λ i j l lt x y m m′.
         let a = branch-of left p x i m in
         let b = branch-of left p y j m′ in
-        subst (λ (z : List ℕ). (Lex _<_) z y) (sym (a .1)) (subst (λ (z : List ℕ). (Lex _<_) (p ++ (placeOf table p i ∷ a .0)) z) (sym (b .1)) (less-at p (a .0) (b .0) (rows _ i j h l lt (b .2)))))
+        subst (λ (z : List ℕ). (Lex _<_) z y) (sym (a .1)) (subst (λ (z : List ℕ). (Lex _<_) (p ++ (nextWord table p i ∷ a .0)) z) (sym (b .1)) (less-at p (a .0) (b .0) (rows _ i j h l lt (b .2)))))
       where
         last-of : (a : ℕ) → getD (p ++ (a ∷ [])) (length (p ++ (a ∷ [])) - 1) 0 ≡ a
         last-of a = let e : length (p ++ (a ∷ [])) - 1 ≡ length p = omega (arith, length-append p (a ∷ [])) in rw e (at-last p a [])
 
         go : ((p′ : List ℕ) → getD p′ (length p′ - 1) 0 < n → Ascending (Lex _<_) (extend may n table dist k left p′)) → (i : ℕ) (b : Bool) → goesOn may n table p i ≡ b
-            → Ascending (Lex _<_) (cond b (extend may n table dist k left (p ++ (placeOf table p i ∷ []))) [])
-        go rec i true e = rec _ (rw (last-of (placeOf table p i)) (ltb-true _ _ (and-eq-true-iff _ _ .0 e .0)))
+            → Ascending (Lex _<_) (cond b (extend may n table dist k left (p ++ (nextWord table p i ∷ []))) [])
+        go rec i true e = rec _ (rw (last-of (nextWord table p i)) (ltb-true _ _ (and-eq-true-iff _ _ .0 e .0)))
         go rec i false e = tt
 
 pub rings-asc : (n : ℕ) (table dist : List ℕ) (k : ℕ) (may : Tests) → Rows n table → Ascending (Lex _<_) (ringsOf may n table dist k)

@@ -12,7 +12,7 @@ use lib.ListN.{length, take, getD}
 use borrow.Author.Tests.{lt-ltb, le-ltb}
 use Rattle.network.specs.Network.{word, IsNetwork}
 use Rattle.network.specs.Maxima.{places, free}
-use Rattle.search.specs.Search.{Test, gatherBelow, placeOf, goesOn, follows, ended, extend, branch}
+use Rattle.search.specs.Search.{Test, gatherBelow, nextWord, goesOn, follows, ended, extend, branch}
 use Rattle.search.specs.Shortest.{Ends}
 use Rattle.census.specs.Census.{plain}
 use Rattle.search.specs.State.{PathIn, State, noteAll}
@@ -21,10 +21,10 @@ use Rattle.search.proofs.Paths.{path-long}
 use Rattle.search.proofs.Notes.{all-append}
 
 -- what stands at a place of the last atom's row
-pub place-at : (table path : List ℕ) (i len x : ℕ) → length path ≡ len → x ≡ getD path (len - 1) 0 → getD table (x * places + i) 0 ≡ placeOf table path i
+pub place-at : (table path : List ℕ) (i len x : ℕ) → length path ≡ len → x ≡ getD path (len - 1) 0 → getD table (x * places + i) 0 ≡ nextWord table path i
 place-at table path i len x e h = rw (h, e)
 
-module _ (may : Test) (n : ℕ) (table : List ℕ) (path : List ℕ) (i w : ℕ) (e : w ≡ placeOf table path i) where
+module _ (may : Test) (n : ℕ) (table : List ℕ) (path : List ℕ) (i w : ℕ) (e : w ≡ nextWord table path i) where
   pub goes-is : (m b : Bool) → w < n → m ≡ follows may path w → m ≡ b → goesOn may n table path i ≡ b
   unfolding goesOn
   goes-is m b lt h t = rw (← e, lt-ltb w n lt, ← h) t
@@ -42,22 +42,22 @@ ends-of {n} {table} N x i j l k m h =
     ]
 
 -- a row ends at its first free place
-pub row-ends : (may : Test) (n : ℕ) (table dist : List ℕ) (k left : ℕ) (path : List ℕ) (i w : ℕ) → Ends n table → getD path (length path - 1) 0 < n → i < places → w ≡ placeOf table path i → n ≤ w
+pub row-ends : (may : Test) (n : ℕ) (table dist : List ℕ) (k left : ℕ) (path : List ℕ) (i w : ℕ) → Ends n table → getD path (length path - 1) 0 < n → i < places → w ≡ nextWord table path i → n ≤ w
     → gatherBelow i (branch may n table dist k left path) ≡ gatherBelow places (branch may n table dist k left path)
 unfolding branch
 row-ends may n table dist k left path i w packed last lt e le =
-    gather-rest (branch may n table dist k left path) i places (omega arith) (λ j ge l. rw (goes-out may n table path j (placeOf table path j) refl (free j ge l)))
+    gather-rest (branch may n table dist k left path) i places (omega arith) (λ j ge l. rw (goes-out may n table path j (nextWord table path j) refl (free j ge l)))
   where
-    free : (j : ℕ) → i ≤ j → j < places → n ≤ placeOf table path j
+    free : (j : ℕ) → i ≤ j → j < places → n ≤ nextWord table path j
     free j ge l =
-        ⊎-elim (λ q. subst (λ (x : ℕ). n ≤ placeOf table path x) q (rw (← e) le)) (λ l′. packed _ i j last l′ l (rw (← e) le)) (eq-or-lt-of-le ge)
+        ⊎-elim (λ q. subst (λ (x : ℕ). n ≤ nextWord table path x) q (rw (← e) le)) (λ l′. packed _ i j last l′ l (rw (← e) le)) (eq-or-lt-of-le ge)
 
 module _ (may : Test) (n : ℕ) (table dist : List ℕ) (k left : ℕ) (path : List ℕ) (a i : ℕ) (s₀ s : State) (inv : s ≡ noteAll length plain a (gatherBelow i (branch may n table dist k left path)) s₀) where
   pub turn-no : goesOn may n table path i ≡ false → s ≡ noteAll length plain a (gatherBelow (i + 1) (branch may n table dist k left path)) s₀
   unfolding gatherBelow branch noteAll
   turn-no h = rw (add-one, all-append, ← inv, h)
 
-  pub turn-yes : (s′ : State) (p : List ℕ) (r : ℕ) → goesOn may n table path i ≡ true → r ≡ placeOf table path i → p ≡ path ++ (r ∷ []) → s′ ≡ noteAll length plain a (extend may n table dist k left p) s
+  pub turn-yes : (s′ : State) (p : List ℕ) (r : ℕ) → goesOn may n table path i ≡ true → r ≡ nextWord table path i → p ≡ path ++ (r ∷ []) → s′ ≡ noteAll length plain a (extend may n table dist k left p) s
       → s′ ≡ noteAll length plain a (gatherBelow (i + 1) (branch may n table dist k left path)) s₀
   unfolding gatherBelow branch
   turn-yes s′ p r h e q g = rw (add-one, all-append, ← inv, h, ← e, ← q) g
@@ -72,10 +72,10 @@ unfolding extend
 whole-result may n table dist k left w a s s′ e h = rw (e, sub-zero k) h
 
 -- what stands in the row of the last atom, as the code reads it
-pub in-row : (table w : List ℕ) (n len i last a r : ℕ) → PathIn n w len → last ≡ getD (take len w) (len - 1) 0 → a ≡ getD table (last * places + i) 0 → r ≡ a → r ≡ placeOf table (take len w) i
+pub in-row : (table w : List ℕ) (n len i last a r : ℕ) → PathIn n w len → last ≡ getD (take len w) (len - 1) 0 → a ≡ getD table (last * places + i) 0 → r ≡ a → r ≡ nextWord table (take len w) i
 in-row table w n len i last a r p el ea er = er ∙ ea ∙ place-at table (take len w) i len last (path-long p) el
 
-pub row-done : (may : Test) (n : ℕ) (table dist : List ℕ) (k left : ℕ) (w : List ℕ) (len i last r a : ℕ) (s₀ s : State) → Ends n table → PathIn n w len → last ≡ getD (take len w) (len - 1) 0 → last < n → i < places → r ≡ placeOf table (take len w) i → n ≤ r → (left ≡ 0 → ⊥)
+pub row-done : (may : Test) (n : ℕ) (table dist : List ℕ) (k left : ℕ) (w : List ℕ) (len i last r a : ℕ) (s₀ s : State) → Ends n table → PathIn n w len → last ≡ getD (take len w) (len - 1) 0 → last < n → i < places → r ≡ nextWord table (take len w) i → n ≤ r → (left ≡ 0 → ⊥)
     → s ≡ noteAll length plain a (gatherBelow i (branch may n table dist k (left - 1) (take len w))) s₀ → s ≡ noteAll length plain a (extend may n table dist k left (take len w)) s₀
 row-done may n table dist k left w len i last r a s₀ s packed p el lt li e le nz h =
     rw (← extend-some may n table dist k left (take len w) nz, ← row-ends may n table dist k (left - 1) (take len w) i r packed (rw (path-long p, ← el) lt) li e le) h

@@ -9,7 +9,7 @@
 --   Test                    a test that turns back: whether a ring may begin with the path and the atom after it
 --   Tests                   such a test for each number of atoms, buffer of distances and length
 --   follows may path a      a is above the path's first atom, and passes the test
---   placeOf table path i    what stands at place i of the row of the path's last atom
+--   nextWord table path i   what stands at place i of the row of the path's last atom
 --   goesOn .. path i        that place holds an atom that may follow
 --   ended .. path           a whole path, if it is a ring
 --   extend .. left path     every ring of k atoms that begins with the path, which lacks `left` atoms, in order
@@ -56,11 +56,11 @@ Test = List ℕ → ℕ → Bool
 unfoldable pub follows : Test → List ℕ → ℕ → Bool
 follows may path a = ltb (getD path 0 0) a && may path a
 
-abbrev pub placeOf : List ℕ → List ℕ → ℕ → ℕ
-placeOf table path i = word table (getD path (length path - 1) 0) i
+abbrev pub nextWord : List ℕ → List ℕ → ℕ → ℕ
+nextWord table path i = word table (getD path (length path - 1) 0) i
 
 unfoldable pub goesOn : Test → ℕ → List ℕ → List ℕ → ℕ → Bool
-goesOn may n table path i = ltb (placeOf table path i) n && follows may path (placeOf table path i)
+goesOn may n table path i = ltb (nextWord table path i) n && follows may path (nextWord table path i)
 
 unfoldable pub ended : ℕ → List ℕ → ℕ → List ℕ → List (List ℕ)
 ended n dist k path = cond (isRing n dist k path) (path ∷ []) []
@@ -68,10 +68,10 @@ ended n dist k path = cond (isRing n dist k path) (path ∷ []) []
 unfoldable pub extend : Test → ℕ → List ℕ → List ℕ → ℕ → ℕ → List ℕ → List (List ℕ)
 extend may n table dist k zero path = ended n dist k path
 extend may n table dist k (suc left) path =
-    gatherBelow places (λ i. cond (goesOn may n table path i) (extend may n table dist k left (path ++ (placeOf table path i ∷ []))) [])
+    gatherBelow places (λ i. cond (goesOn may n table path i) (extend may n table dist k left (path ++ (nextWord table path i ∷ []))) [])
 
 unfoldable pub branch : Test → ℕ → List ℕ → List ℕ → ℕ → ℕ → List ℕ → ℕ → List (List ℕ)
-branch may n table dist k left path i = cond (goesOn may n table path i) (extend may n table dist k left (path ++ (placeOf table path i ∷ []))) []
+branch may n table dist k left path i = cond (goesOn may n table path i) (extend may n table dist k left (path ++ (nextWord table path i ∷ []))) []
 
 abbrev pub Tests : Type 0
 Tests = ℕ → List ℕ → ℕ → Test

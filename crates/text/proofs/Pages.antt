@@ -10,7 +10,7 @@ use borrow.Author.Tests.{lt-ltb, le-ltb}
 use lib.ListN.{length, getD, drop, set, length-set}
 use lib.Seq.{drop-cons, drop-length, sets, sets-eq}
 use Rattle.text.specs.declared.Pen.{Pen}
-use Rattle.text.specs.Page.{Page, page, start, put, putAll}
+use Rattle.text.specs.Page.{Page, page, firstPen, put, putAll}
 
 module _ (b : ℕ) (p : Pen) (l : List ℕ) where
   pub put-room : p .whole ≡ true → p .at < length l → page (record { at = p .at + 1; whole = true }) (set l (p .at) b) ≡ put b (page p l)
@@ -62,7 +62,7 @@ written (x ∷ xs) l i h =
     ∙ ap₂ (λ (n : ℕ) (m : List ℕ). page (record { at = n; whole = true }) m) (let e : i + 1 + length xs ≡ i + suc (length xs) = omega arith in e) (ap (λ (n : ℕ). sets (set l i x) n xs) (add-one i))
 
 -- a text that has room is written whole, from the first byte on
-pub text-fits : (xs l : List ℕ) → length xs ≤ length l → putAll xs (page start l) ≡ page (record { at = length xs; whole = true }) (xs ++ drop (length xs) l)
+pub text-fits : (xs l : List ℕ) → length xs ≤ length l → putAll xs (page firstPen l) ≡ page (record { at = length xs; whole = true }) (xs ++ drop (length xs) l)
 text-fits xs l h =
     written xs l 0 (omega arith)
     ∙ ap₂ (λ (n : ℕ) (m : List ℕ). page (record { at = n; whole = true }) m) (let e : 0 + length xs ≡ length xs = omega arith in e)
@@ -85,5 +85,5 @@ cut (x ∷ xs) l i h k =
     ]
 
 -- and one that has none is said not to be whole
-pub text-cut : (xs l : List ℕ) → length l < length xs → putAll xs (page start l) .pen .whole ≡ false
+pub text-cut : (xs l : List ℕ) → length l < length xs → putAll xs (page firstPen l) .pen .whole ≡ false
 text-cut xs l h = cut xs l 0 (omega arith) (omega arith)

@@ -5,7 +5,7 @@ mod put;
 use network::Answer;
 use ring::Ring;
 ghost use mathlib.Core.Path.{_≡_};
-ghost use Rattle.text.specs.Page.{page, start, putAll};
+ghost use Rattle.text.specs.Page.{page, firstPen, putAll};
 ghost use Rattle.text.specs.Lines.{listingText, refusalText};
 
 // Where the next byte goes, and whether every byte so far had room.
@@ -23,7 +23,7 @@ pub fn listing(
     total: u32,
     out: &mut [u8],
 ) -> Pen
-    ensures { λ r. ⌜ page r (now (out .exit)) ≡ putAll (listingText atoms bonds (now (list .entry)) counts total) (page start (now (out .entry))) ⌝ }
+    ensures { λ r. ⌜ page r (now (out .exit)) ≡ putAll (listingText atoms bonds (now (list .entry)) counts total) (page firstPen (now (out .entry))) ⌝ }
 {
     let begun = Pen { at: 0, whole: true };
     let first = lines::sizes(out, begun, atoms, bonds);
@@ -34,7 +34,7 @@ pub fn listing(
 
 // A refusal: its number, row and place.
 pub fn refusal(answer: Answer, out: &mut [u8]) -> Pen
-    ensures { λ r. ⌜ page r (now (out .exit)) ≡ putAll (refusalText answer) (page start (now (out .entry))) ⌝ }
+    ensures { λ r. ⌜ page r (now (out .exit)) ≡ putAll (refusalText answer) (page firstPen (now (out .entry))) ⌝ }
 {
     let begun = Pen { at: 0, whole: true };
     let code = put::named(out, begun, b"refused ", answer.code as usize);

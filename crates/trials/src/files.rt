@@ -1,7 +1,7 @@
 // The network file: Fig. 1 there and back, the greatest file, and refusals 19 to 28 from both sides.
 use crate::models;
 use crate::say;
-use bnw::Reading;
+use bnw::FileRead;
 use network::Network;
 
 // The words of the greatest table.
@@ -140,7 +140,7 @@ fn read(file: &[u8], room: usize) {
     say::line();
 }
 
-fn show(reading: Reading) {
+fn show(reading: FileRead) {
     say::text(b"read");
     say::answer(reading.answer);
     say::number(reading.atoms);

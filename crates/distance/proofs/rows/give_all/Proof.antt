@@ -2,14 +2,14 @@ use Prim.Native.Nat.{_≤_, _-_}
 use mathlib.Core.Path.{_≡_, refl}
 use native.Mathlib.Omega.{arith}
 use Rattle.network.specs.Maxima.{places}
-use Rattle.distance.specs.Levels.{give, Filled}
+use Rattle.distance.specs.Levels.{give, PassFilled}
 use Rattle.distance.proofs.Fills.{give-free, give-next, give-end, filled-none, filled-more, unreached-le}
 use Rattle.distance.proofs.rows.give_all.Statement.{statement}
 use Rattle.distance.proofs.rows.give_all.Tie as tie
 
 abbrev Inv-loop : tie.InvT-loop
 Inv-loop table row₀ v e count₀ p₀ row count p =
-    (p ≤ places) × (give table v e places 0 row₀ ≡ give table v e (places - p) p row) × Filled row₀ row count
+    (p ≤ places) × (give table v e places 0 row₀ ≡ give table v e (places - p) p row) × PassFilled row₀ row count
 
 abbrev μ-loop : tie.MeasureT-loop
 μ-loop table row₀ v e count₀ p₀ row count p = places - p

@@ -2,14 +2,14 @@ use Prim.Native.Nat.{_≤_, _<_, _-_}
 use mathlib.Core.Path.{_≡_}
 use native.Mathlib.Omega.{arith}
 use lib.ListN.{length}
-use Rattle.distance.specs.Levels.{level, Filled}
+use Rattle.distance.specs.Levels.{level, PassFilled}
 use Rattle.distance.proofs.Fills.{level-start, level-next, level-end, filled-none, filled-more, unreached-le}
 use Rattle.distance.proofs.rows.pass.Statement.{statement}
 use Rattle.distance.proofs.rows.pass.Tie as tie
 
 abbrev Inv-loop : tie.InvT-loop
 Inv-loop table row₀ d count₀ v₀ row count v =
-    (v ≤ length row₀) × (level table d (length row₀) 0 row₀ ≡ level table d (length row₀ - v) v row) × Filled row₀ row count
+    (v ≤ length row₀) × (level table d (length row₀) 0 row₀ ≡ level table d (length row₀ - v) v row) × PassFilled row₀ row count
 
 abbrev μ-loop : tie.MeasureT-loop
 μ-loop table row₀ d count₀ v₀ row count v = length row₀ - v

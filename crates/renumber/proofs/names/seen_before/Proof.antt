@@ -2,13 +2,13 @@ use Prim.Native.Nat.{_≤_, _-_}
 use mathlib.Core.Path.{_≡_}
 use native.Mathlib.Omega.{arith}
 use borrow.Author.Needs.{needs}
-use Rattle.renumber.specs.Names.{name, seen}
+use Rattle.renumber.specs.Names.{name, nameSeen}
 use Rattle.renumber.proofs.NameScans.{seen-start, seen-here, seen-next, seen-none}
 use Rattle.renumber.proofs.names.seen_before.Statement.{statement}
 use Rattle.renumber.proofs.names.seen_before.Tie as tie
 
 abbrev Inv-loop : tie.InvT-loop
-Inv-loop names i j₀ j = (j ≤ i) × (seen names (name names i) i 0 ≡ seen names (name names i) (i - j) j)
+Inv-loop names i j₀ j = (j ≤ i) × (nameSeen names (name names i) i 0 ≡ nameSeen names (name names i) (i - j) j)
 
 abbrev μ-loop : tie.MeasureT-loop
 μ-loop names i j₀ j = i - j

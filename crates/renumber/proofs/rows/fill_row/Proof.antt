@@ -4,14 +4,14 @@ use native.Mathlib.Omega.{arith}
 use borrow.Author.Needs.{needs}
 use lib.ListN.{length, getD, length-set}
 use Rattle.network.specs.Maxima.{places}
-use Rattle.renumber.specs.Rows.{above, Filled}
+use Rattle.renumber.specs.Rows.{above, RowBegun}
 use Rattle.renumber.proofs.LeastNames.{filled-none, above-next, filled-next, filled-all}
 use Rattle.renumber.proofs.rows.fill_row.Statement.{statement}
 use Rattle.renumber.proofs.rows.fill_row.Tie as tie
 
 abbrev Inv-loop : tie.InvT-loop
 Inv-loop n table names x row₀ low₀ p₀ row low p =
-    (p ≤ places) × (length row ≡ places) × (low ≡ above (λ q. getD row q 0) p) × Filled table names x (λ q. getD row q 0) p
+    (p ≤ places) × (length row ≡ places) × (low ≡ above (λ q. getD row q 0) p) × RowBegun table names x (λ q. getD row q 0) p
 
 abbrev μ-loop : tie.MeasureT-loop
 μ-loop n table names x row₀ low₀ p₀ row low p = places - p

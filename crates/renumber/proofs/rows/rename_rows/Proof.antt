@@ -6,7 +6,7 @@ use lib.ListN.{length}
 use Rattle.network.specs.Maxima.{places}
 use Rattle.network.specs.Network.{word}
 use Rattle.renumber.specs.Names.{name}
-use Rattle.renumber.specs.Rows.{Filled}
+use Rattle.renumber.specs.Rows.{RowBegun}
 use Rattle.renumber.proofs.PutRows.{part-long, put-long, rows-next}
 use Rattle.renumber.proofs.NewRows.{renumbered}
 use Rattle.renumber.proofs.rows.rename_rows.Statement.{statement}
@@ -14,7 +14,7 @@ use Rattle.renumber.proofs.rows.rename_rows.Tie as tie
 
 abbrev Inv-loop : tie.InvT-loop
 Inv-loop n table names renamed₀ x₀ renamed x =
-    (x ≤ n) × (length renamed ≡ places * n) × ((y : ℕ) → y < x → Filled table names y (word renamed (name names y)) places)
+    (x ≤ n) × (length renamed ≡ places * n) × ((y : ℕ) → y < x → RowBegun table names y (word renamed (name names y)) places)
 
 abbrev μ-loop : tie.MeasureT-loop
 μ-loop n table names renamed₀ x₀ renamed x = n - x

@@ -5,14 +5,14 @@ use native.Mathlib.Omega.{arith}
 use borrow.Author.Needs.{needs}
 use lib.ListN.{length}
 use Rattle.ring.specs.Firsts.{firstOf}
-use Rattle.ring.specs.CandidateVerdict.{apart}
+use Rattle.ring.specs.CandidateVerdict.{notBonded}
 use Rattle.ring.proofs.Firsts.{first-start, first-here, first-next, first-never, at-least, not-at-least}
 use Rattle.ring.proofs.CandidateVerdicts.{row-inside}
 use Rattle.ring.proofs.faults.first_apart.Statement.{statement}
 use Rattle.ring.proofs.faults.first_apart.Tie as tie
 
 abbrev Inv-loop : tie.InvT-loop
-Inv-loop n table ring i₀ i = (i ≤ length ring) × (firstOf (apart table ring) (length ring) 0 ≡ firstOf (apart table ring) (length ring - i) i)
+Inv-loop n table ring i₀ i = (i ≤ length ring) × (firstOf (notBonded table ring) (length ring) 0 ≡ firstOf (notBonded table ring) (length ring - i) i)
 
 abbrev μ-loop : tie.MeasureT-loop
 μ-loop n table ring i₀ i = length ring - i

@@ -3,13 +3,13 @@ use mathlib.Core.Path.{_≡_}
 use native.Mathlib.Omega.{arith}
 use lib.ListN.{length}
 use Rattle.ring.specs.Firsts.{firstOf}
-use Rattle.ring.specs.CandidateVerdict.{seen}
+use Rattle.ring.specs.CandidateVerdict.{seenBefore}
 use Rattle.ring.proofs.Firsts.{first-start, first-here, first-next, first-never, below, not-below}
 use Rattle.ring.proofs.faults.first_repeated.Statement.{statement}
 use Rattle.ring.proofs.faults.first_repeated.Tie as tie
 
 abbrev Inv-loop : tie.InvT-loop
-Inv-loop ring j₀ j = (j ≤ length ring) × (firstOf (seen ring) (length ring) 0 ≡ firstOf (seen ring) (length ring - j) j)
+Inv-loop ring j₀ j = (j ≤ length ring) × (firstOf (seenBefore ring) (length ring) 0 ≡ firstOf (seenBefore ring) (length ring - j) j)
 
 abbrev μ-loop : tie.MeasureT-loop
 μ-loop ring j₀ j = length ring - j

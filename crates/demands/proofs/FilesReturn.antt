@@ -1,0 +1,54 @@
+-- Demand 2 holds of files.
+use mathlib.Core.Path.{_≡_, _∙_, ap}
+use mathlib.Core.List.{List}
+use Prim.Native.Nat.{ℕ, _*_, _≤_}
+use native.Mathlib.Omega.{arith}
+use native.Mathlib.Decide.{ℕ-discrete}
+use lib.ListN.{length, take, drop, length-append}
+use Rattle.network.specs.Maxima.{places}
+use Rattle.bnw.specs.declared.FileRead.{FileRead}
+use Rattle.bnw.specs.declared.FileWritten.{FileWritten}
+use Rattle.bnw.specs.File.{fileOf, bondsOf, tableOf}
+use Rattle.bnw.specs.Reading.{ReadOutcome}
+use Rattle.bnw.specs.Writing.{WriteOutcome}
+use Rattle.bnw.proofs.Partners.{table-length}
+use Rattle.bnw.proofs.RoundTrips.{read-network, read-write, write-read}
+use Rattle.demands.specs.declared.ReadAndWritten.{ReadAndWritten}
+use Rattle.demands.specs.Files.{rowsRead, ReadThenWrite, WriteThenRead}
+use Rattle.demands.proofs.Meets.{read-met, write-met}
+
+-- the rows read are part of the table, and the bytes written part of the file
+pub rows-inside : (file table table′ : List ℕ) (r : FileRead) → ReadOutcome file table table′ r → places * r .atoms ≤ length table′
+rows-inside file table table′ r R = go (ℕ-discrete (r .answer .code) 0)
+  where
+    go : Dec (r .answer .code ≡ 0) → places * r .atoms ≤ length table′
+    go (no z) = omega (arith, R .refused z .0)
+    go (yes z) =
+        let A = R .accepts z in
+        omega (arith, ap length (A .filled), length-append (tableOf (r .atoms) (A .list)) (drop (places * r .atoms) table), table-length (A .list) (A .valid .eight) (r .atoms))
+
+pub bytes-inside : (n : ℕ) (t file file′ : List ℕ) (w : FileWritten) → WriteOutcome n t file file′ w → w .bytes ≤ length file′
+bytes-inside n t file file′ w W = go (ℕ-discrete (w .answer .code) 0)
+  where
+    go : Dec (w .answer .code ≡ 0) → w .bytes ≤ length file′
+    go (no z) = omega (arith, W .refused z .0)
+    go (yes z) = omega (arith, ap length (W .written z), length-append (fileOf n (bondsOf t)) (drop (w .bytes) file), W .number z)
+
+pub read-then-write : (file table table′ lent lent′ : List ℕ) (r : ReadAndWritten) → ReadOutcome file table table′ (r .reading)
+    → WriteOutcome (r .reading .atoms) (rowsRead (r .reading) table′) lent lent′ (r .writing) → ReadThenWrite file table table′ lent lent′ r
+read-then-write file table table′ lent lent′ r R W = record {
+  read = read-met file table table′ (r .reading) R;
+  written = write-met (r .reading .atoms) (rowsRead (r .reading) table′) lent lent′ (r .writing) W;
+  network = read-network file table table′ (r .reading) R;
+  back = λ z h. (let back = read-write file table table′ (r .reading) R z lent lent′ (r .writing) W h in (back .0, back .2));
+}
+
+pub write-then-read : (n : ℕ) (t file file′ table table′ : List ℕ) (r : ReadAndWritten) → WriteOutcome n t file file′ (r .writing)
+    → ReadOutcome (take (r .writing .bytes) file′) table table′ (r .reading) → WriteThenRead n t file file′ table table′ r
+write-then-read n t file file′ table table′ r W R = record {
+  written = write-met n t file file′ (r .writing) W;
+  read = read-met (take (r .writing .bytes) file′) table table′ (r .reading) R;
+  back = λ z h.
+      let back = write-read n t file file′ (r .writing) W z table table′ (r .reading) R h in
+      (back .0, back .1, ap (λ (k : ℕ). take (places * k) table′) (back .1) ∙ back .3);
+}
