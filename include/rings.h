@@ -113,7 +113,7 @@ typedef struct {
     size_t words;                      /* the list's length in words: k + 1 for a ring of length k */
     double per_atom;                   /* rings per atom, total / n */
     bool has_mean;                     /* whether there are rings, and so a mean length */
-    double mean;                       /* the mean ring length, (words - total) / total; +0.0 without rings */
+    double mean;                       /* the mean ring length, the sum of the lengths / total; +0.0 without rings */
 } rings_census;
 
 /* What the test of one candidate answers. */

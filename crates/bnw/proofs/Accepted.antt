@@ -9,13 +9,13 @@ use native.Mathlib.Decide.{decLt, ℕ-discrete}
 use lib.Dec.{ltb}
 use lib.ListN.{length, getD, length-append}
 use borrow.Author.Tests.{eq-eqb, ne-eqb, lt-ltb, le-ltb}
-use Rattle.graph.specs.Lists.{_∈_, gather, count}
+use Rattle.graph.specs.Lists.{_∈_, gather, numbersFrom}
 use Rattle.graph.proofs.Lists.{at-place}
 use Rattle.network.specs.Maxima.{places}
 use Rattle.network.specs.Network.{Counted}
 use Rattle.network.specs.Verdict.{accepted}
 use Rattle.bnw.specs.File.{Bond, EarlierBond, version, bondsMost, partner, partners, ValidBonds, fileOf}
-use Rattle.bnw.specs.Reading.{earlier, inOrder, bondIn, bondsBelow, fileBondFault, orAt, headFault, readVerdict}
+use Rattle.bnw.specs.Reading.{earlierBond, inOrder, bondIn, bondsBelow, fileBondFault, orAt, headFault, readVerdict}
 use Rattle.bnw.proofs.Runs.{length-more, gather-fits}
 use Rattle.bnw.proofs.Partners.{partner-first, partner-second, partners-fit}
 use Rattle.bnw.proofs.HeadFaults.{head-rest}
@@ -32,7 +32,7 @@ module _ (n : ℕ) where
       length-append (f x ++ g x) (gather (λ y. f y ++ g y) xs)
       ∙ omega (arith, length-append (f x) (g x), both f g xs, length-append (f x) (gather f xs), length-append (g x) (gather g xs))
 
-  two : (b : Bond) → b .first < b .second → b .second < n → 2 ≤ length (gather (λ x. partner x b) (count n 0))
+  two : (b : Bond) → b .first < b .second → b .second < n → 2 ≤ length (gather (λ x. partner x b) (numbersFrom n 0))
   two b l h =
       omega (
         arith,
@@ -42,14 +42,14 @@ module _ (n : ℕ) where
         ap length (partner-second (b .second) b (b .first) refl (λ e. omega arith) (b .second) refl refl),
       )
 
-  twice : (bonds : List Bond) → ((b : Bond) → b ∈ bonds → (b .first < b .second) × (b .second < n)) → 2 * length bonds ≤ length (gather (partners bonds) (count n 0))
+  twice : (bonds : List Bond) → ((b : Bond) → b ∈ bonds → (b .first < b .second) × (b .second < n)) → 2 * length bonds ≤ length (gather (partners bonds) (numbersFrom n 0))
   unfolding partners
   twice [] h = omega arith
   twice (b ∷ bonds) h =
       let r = h b (List·Memᴰ·head refl) in
-      omega (arith, both (λ x. partner x b) (partners bonds) (count n 0), two b (r .0) (r .1), twice bonds (λ c m. h c (List·Memᴰ·tail m)))
+      omega (arith, both (λ x. partner x b) (partners bonds) (numbersFrom n 0), two b (r .0) (r .1), twice bonds (λ c m. h c (List·Memᴰ·tail m)))
 
-  rows : (bonds : List Bond) → ((x : ℕ) → length (partners bonds x) ≤ places) → (k : ℕ) → length (gather (partners bonds) (count k 0)) ≤ places * k
+  rows : (bonds : List Bond) → ((x : ℕ) → length (partners bonds x) ≤ places) → (k : ℕ) → length (gather (partners bonds) (numbersFrom k 0)) ≤ places * k
   rows bonds e zero = omega arith
   rows bonds e (suc k) = omega (arith, rows bonds e k, e k, rw add-one at (length-more (partners bonds) k))
 
@@ -85,7 +85,7 @@ module _ (n : ℕ) (bonds : List Bond) (C : Counted n) (B : ValidBonds n bonds) 
       after (yes z) = rw (eq-eqb k 0 z)
       after (no z) =
           rw (ne-eqb k 0 z)
-          (ap₂ earlier (bond-read n bonds (k - 1) (omega arith)) (bond-read n bonds k l)
+          (ap₂ earlierBond (bond-read n bonds (k - 1) (omega arith)) (bond-read n bonds k l)
           ∙ earlier-is (getD bonds (k - 1) none) (getD bonds k none) (ascending-places EarlierBond none bonds (B .ascends) (k - 1) k (omega arith) l))
 
   module _ (room : ℕ) where

@@ -11,7 +11,7 @@ use Rattle.network.specs.declared.Answer.{Answer}
 use Rattle.network.specs.Maxima.{places}
 use Rattle.network.specs.Verdict.{answer, accepted}
 use Rattle.bnw.specs.File.{Bond, partners}
-use Rattle.bnw.specs.Reading.{earlier, inside, inOrder, full, bondsBelow, fileBondFault, orAt, firstBond}
+use Rattle.bnw.specs.Reading.{earlierBond, inside, inOrder, full, bondsBelow, fileBondFault, orAt, firstBond}
 
 module _ (bond : ℕ → Bond) (k : ℕ) where
   pub follows-none : k ≡ 0 → true ≡ inOrder bond k
@@ -20,18 +20,18 @@ module _ (bond : ℕ → Bond) (k : ℕ) where
 
   module _ (z : k ≡ 0 → ⊥) (before first : ℕ) (eb : before ≡ bond (k - 1) .first) (ef : first ≡ bond k .first) where
     pub follows-above : before < first → true ≡ inOrder bond k
-    unfolding inOrder earlier
+    unfolding inOrder earlierBond
     follows-above h = let l : bond (k - 1) .first < bond k .first = omega arith in simp (ne-eqb _ _ z, lt-ltb _ _ l)
 
     module _ (h : first ≤ before) where
       pub follows-below : (before ≡ first → ⊥) → false ≡ inOrder bond k
-      unfolding inOrder earlier
+      unfolding inOrder earlierBond
       follows-below d =
           let l : bond k .first ≤ bond (k - 1) .first = omega arith in
           simp (ne-eqb _ _ z, le-ltb _ _ l, ne-eqb (bond (k - 1) .first) (bond k .first) (λ e. d (eb ∙ e ∙ sym ef)))
 
       pub follows-second : (s t : ℕ) → before ≡ first → s ≡ bond (k - 1) .second → t ≡ bond k .second → ltb s t ≡ inOrder bond k
-      unfolding inOrder earlier
+      unfolding inOrder earlierBond
       follows-second s t d es et =
           let l : bond k .first ≤ bond (k - 1) .first = omega arith in
           rw (es, et) (simp (ne-eqb _ _ z, le-ltb _ _ l, eq-eqb (bond (k - 1) .first) (bond k .first) (sym eb ∙ d ∙ ef)))

@@ -9,14 +9,14 @@ use native.Mathlib.Decide.{ℕ-discrete}
 use lib.ListN.{length, getD, take, length-map}
 use lib.Seq.{take-suc, take-all, ext-getD, getD-append-add}
 use borrow.Author.Tests.{eq-eqb, ne-eqb}
-use Rattle.graph.specs.Lists.{gather, count}
+use Rattle.graph.specs.Lists.{gather, numbersFrom}
 use Rattle.graph.proofs.Lists.{getD-map, getD-count, length-count}
 use Rattle.bnw.specs.File.{Bond, mark, version, twoBytes, bondBytes, headOf, fileOf, headLength, bondLength}
 use Rattle.bnw.specs.Reading.{field, Bytes, marked, bondIn, bondsBelow}
 use Rattle.bnw.proofs.Runs.{gather-one, map-more}
 
 pub length-below : (bond : ℕ → Bond) (k : ℕ) → length (bondsBelow bond k) ≡ k
-length-below bond k = length-map (count k 0) bond ∙ length-count k 0
+length-below bond k = length-map (numbersFrom k 0) bond ∙ length-count k 0
 
 -- from bytes to fields
 module _ (file : List ℕ) (bytes : Bytes file) where
@@ -129,5 +129,5 @@ module _ (n : ℕ) (bonds : List Bond) where
   bonds-read =
       ext-getD none (bondsBelow (bondIn (fileOf n bonds)) (length bonds)) bonds (length-below (bondIn (fileOf n bonds)) (length bonds))
       (λ k h. let l : k < length bonds = omega (arith, length-below (bondIn (fileOf n bonds)) (length bonds)) in
-      getD-map (bondIn (fileOf n bonds)) (count (length bonds) 0) k 0 none (omega (arith, length-count (length bonds) 0))
+      getD-map (bondIn (fileOf n bonds)) (numbersFrom (length bonds) 0) k 0 none (omega (arith, length-count (length bonds) 0))
       ∙ ap (bondIn (fileOf n bonds)) (getD-count (length bonds) 0 k 0 l ∙ (let e : 0 + k ≡ k = omega arith in e)) ∙ bond-read k l)

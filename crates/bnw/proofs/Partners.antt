@@ -7,7 +7,7 @@ use native.Mathlib.Omega.{arith}
 use lib.ListN.{length, set, replicate, length-append, length-replicate}
 use lib.Seq.{sets}
 use borrow.Author.Tests.{eq-eqb, ne-eqb}
-use Rattle.graph.specs.Lists.{gather, count}
+use Rattle.graph.specs.Lists.{gather, numbersFrom}
 use Rattle.network.specs.Maxima.{places, free}
 use Rattle.bnw.specs.File.{Bond, partner, partners, rowOf, tableOf}
 use Rattle.bnw.specs.Reading.{bondsBelow}
@@ -71,9 +71,9 @@ module _ (bond : ℕ → Bond) (x : ℕ) where
   unfolding partners
   partners-more k = ap (gather (partner x)) (map-more bond k) ∙ gather-one (partner x) (bondsBelow bond k) (bond k)
 
-  partners-as : (k : ℕ) → partners (bondsBelow bond k) x ≡ gather (λ j. partner x (bond j)) (count k 0)
+  partners-as : (k : ℕ) → partners (bondsBelow bond k) x ≡ gather (λ j. partner x (bond j)) (numbersFrom k 0)
   unfolding partners
-  partners-as k = gather-map (partner x) bond (count k 0)
+  partners-as k = gather-map (partner x) bond (numbersFrom k 0)
 
   more : (k : ℕ) → length (partners (bondsBelow bond (k + 1)) x) ≡ length (partners (bondsBelow bond k) x) + length (partner x (bond k))
   more k = ap length (partners-more k) ∙ length-append (partners (bondsBelow bond k) x) (partner x (bond k))

@@ -1,4 +1,4 @@
--- There and back: from bonds to their table and its bonds, and from a network to its bonds and their table.
+-- Both ways: from bonds to their table and its bonds, and from a network to its bonds and their table.
 use mathlib.Core.Path.{_≡_, refl, sym, _∙_, ap, ap₂, subst}
 use mathlib.Core.Logic.{inl, inr}
 use mathlib.Core.Bool.{Bool, true, false, not}
@@ -11,7 +11,7 @@ use lib.Dec.{eqb}
 use lib.ListN.{length, getD, take, drop, replicate, length-take, length-drop}
 use lib.Seq.{getD-take, getD-drop, take-add, take-all}
 use borrow.Author.Tests.{eq-eqb, ne-eqb}
-use Rattle.graph.specs.Lists.{_∈_, Ascending, gather, count, keep, consIf}
+use Rattle.graph.specs.Lists.{_∈_, Ascending, gather, numbersFrom, keep, consIf}
 use Rattle.graph.proofs.Lists.{gather-of, gather-has, gather-ascending, count-of, count-has, ascending-unique}
 use Rattle.network.specs.Maxima.{places, free}
 use Rattle.network.specs.Network.{word, Bonded, Counted, IsNetwork, neighbours}
@@ -42,7 +42,7 @@ module _ (t : List ℕ) (i : ℕ) (b : Bond) (m : b ∈ bondAt t i) where
 pub bonds-bonded : (t : List ℕ) (b : Bond) → b ∈ bondsOf t → (b .first < b .second) × Bonded t (b .first) (b .second)
 unfolding bondsOf
 bonds-bonded t b m =
-    let r = gather-of (bondAt t) (count (length t) 0) m in
+    let r = gather-of (bondAt t) (numbersFrom (length t) 0) m in
     let e = stands-at t (r .0) b (r .2) in
     let h : r .0 < length t = omega (arith, count-of (length t) 0 (r .1) .1) in
     let d : r .0 / places * places + r .0 % places ≡ r .0 = omega arith in (
@@ -65,10 +65,10 @@ bonded-bonds t x y l b =
     (List·Memᴰ·head (ap₂ bond (sym e) (sym (b .stands)))))
 
 -- the numbers below n ascend, and are below n
-ascending-count : (n : ℕ) → Ascending (λ i j. (i < j) × (j < n)) (count n 0)
+ascending-count : (n : ℕ) → Ascending (λ i j. (i < j) × (j < n)) (numbersFrom n 0)
 ascending-count n = go n 0 (omega arith)
   where
-    go : (m a : ℕ) → a + m ≤ n → Ascending (λ i j. (i < j) × (j < n)) (count m a)
+    go : (m a : ℕ) → a + m ≤ n → Ascending (λ i j. (i < j) × (j < n)) (numbersFrom m a)
     go zero a h = tt
     go (suc m) a h = (λ j k. let r = count-of m (suc a) k in omega arith, go m (suc a) (omega arith))
 
@@ -76,7 +76,7 @@ module _ (n : ℕ) (t : List ℕ) (N : IsNetwork n t) where
   pub bonds-ascend : Ascending EarlierBond (bondsOf t)
   unfolding bondsOf
   bonds-ascend =
-      gather-ascending (λ i j. (i < j) × (j < length t)) EarlierBond (bondAt t) (count (length t) 0) (ascending-count (length t)) own
+      gather-ascending (λ i j. (i < j) × (j < length t)) EarlierBond (bondAt t) (numbersFrom (length t) 0) (ascending-count (length t)) own
       (λ i j a b r p q. subst (λ (c : Bond). EarlierBond c b) (sym (stands-at t i a p)) (subst (λ (c : Bond). EarlierBond (bond (i / places) (getD t i 0)) c) (sym (stands-at t j b q)) (across i j (r .0) (r .1) (not-free t j b q))))
     where
       own : (i : ℕ) → Ascending EarlierBond (bondAt t i)
@@ -186,7 +186,7 @@ module _ (n : ℕ) (t : List ℕ) (N : IsNetwork n t) where
           let kj : j < places = omega (arith, length-take places (drop (x * places) t)) in
           N .first x i j l h kj (λ d. f (at j kj ∙ d)) (sym (at i (omega arith)) ∙ e)
 
-  rows-are : (k : ℕ) → k ≤ n → gather (rowOf (bondsOf t)) (count k 0) ≡ take (k * places) t
+  rows-are : (k : ℕ) → k ≤ n → gather (rowOf (bondsOf t)) (numbersFrom k 0) ≡ take (k * places) t
   rows-are zero h = refl
   rows-are (suc k) h =
       let e : suc k * places ≡ k * places + places = omega arith in

@@ -7,7 +7,7 @@ use native.Mathlib.Omega.{arith}
 use native.Mathlib.Decide.{ℕ-discrete}
 use lib.ListN.{length, set, replicate, length-append, length-replicate, replicate-append-replicate}
 use lib.Seq.{sets}
-use Rattle.graph.specs.Lists.{gather, count}
+use Rattle.graph.specs.Lists.{gather, numbersFrom}
 
 -- one run after another
 pub sets-append : (l : List ℕ) (i : ℕ) (vs ws : List ℕ) → sets (sets l i vs) (i + length vs) ws ≡ sets l i (vs ++ ws)
@@ -36,33 +36,33 @@ module _ {A B : Type 0} where
   map-one f [] x = refl
   map-one f (y ∷ xs) x = ap (λ (ys : List B). f y ∷ ys) (map-one f xs x)
 
-count-suc : (n a : ℕ) → count (suc n) a ≡ count n a ++ ((a + n) ∷ [])
+count-suc : (n a : ℕ) → numbersFrom (suc n) a ≡ numbersFrom n a ++ ((a + n) ∷ [])
 count-suc zero a = let e : a + 0 ≡ a = omega arith in rw e
 count-suc (suc n) a = let e : a + suc n ≡ suc a + n = omega arith in rw e (ap (λ (ys : List ℕ). a ∷ ys) (count-suc n (suc a)))
 
-pub count-more : (n : ℕ) → count (n + 1) 0 ≡ count n 0 ++ (n ∷ [])
-count-more n = let e : 0 + n ≡ n = omega arith in rw (add-one n) (count-suc n 0 ∙ ap (λ (k : ℕ). count n 0 ++ (k ∷ [])) e)
+pub count-more : (n : ℕ) → numbersFrom (n + 1) 0 ≡ numbersFrom n 0 ++ (n ∷ [])
+count-more n = let e : 0 + n ≡ n = omega arith in rw (add-one n) (count-suc n 0 ∙ ap (λ (k : ℕ). numbersFrom n 0 ++ (k ∷ [])) e)
 
-pub gather-more : {B : Type 0} (f : ℕ → List B) (n : ℕ) → gather f (count (n + 1) 0) ≡ gather f (count n 0) ++ f n
-gather-more f n = ap (gather f) (count-more n) ∙ gather-one f (count n 0) n
+pub gather-more : {B : Type 0} (f : ℕ → List B) (n : ℕ) → gather f (numbersFrom (n + 1) 0) ≡ gather f (numbersFrom n 0) ++ f n
+gather-more f n = ap (gather f) (count-more n) ∙ gather-one f (numbersFrom n 0) n
 
-pub map-more : {B : Type 0} (f : ℕ → B) (n : ℕ) → map f (count (n + 1) 0) ≡ map f (count n 0) ++ (f n ∷ [])
-map-more f n = ap (map f) (count-more n) ∙ map-one f (count n 0) n
+pub map-more : {B : Type 0} (f : ℕ → B) (n : ℕ) → map f (numbersFrom (n + 1) 0) ≡ map f (numbersFrom n 0) ++ (f n ∷ [])
+map-more f n = ap (map f) (count-more n) ∙ map-one f (numbersFrom n 0) n
 
 -- what is gathered below k, with what comes at k, is no more than what is gathered below any later number
 module _ {B : Type 0} (f : ℕ → List B) where
-  pub length-more : (k : ℕ) → length (gather f (count (k + 1) 0)) ≡ length (gather f (count k 0)) + length (f k)
-  length-more k = ap length (gather-more f k) ∙ length-append (gather f (count k 0)) (f k)
+  pub length-more : (k : ℕ) → length (gather f (numbersFrom (k + 1) 0)) ≡ length (gather f (numbersFrom k 0)) + length (f k)
+  length-more k = ap length (gather-more f k) ∙ length-append (gather f (numbersFrom k 0)) (f k)
 
-  no-fewer : (j k : ℕ) → j ≤ k → length (gather f (count j 0)) ≤ length (gather f (count k 0))
+  no-fewer : (j k : ℕ) → j ≤ k → length (gather f (numbersFrom j 0)) ≤ length (gather f (numbersFrom k 0))
   no-fewer j zero h = let e : j ≡ 0 = omega arith in rw e (omega arith)
   no-fewer j (suc k) h = go (ℕ-discrete j (suc k)) (no-fewer j k)
     where
-      go : Dec (j ≡ suc k) → (j ≤ k → length (gather f (count j 0)) ≤ length (gather f (count k 0))) → length (gather f (count j 0)) ≤ length (gather f (count (suc k) 0))
+      go : Dec (j ≡ suc k) → (j ≤ k → length (gather f (numbersFrom j 0)) ≤ length (gather f (numbersFrom k 0))) → length (gather f (numbersFrom j 0)) ≤ length (gather f (numbersFrom (suc k) 0))
       go (yes e) ih = rw e (omega arith)
       go (no e) ih = omega (arith, ih (omega arith), rw add-one at (length-more k))
 
-  pub gather-fits : (k n : ℕ) → k < n → length (gather f (count k 0)) + length (f k) ≤ length (gather f (count n 0))
+  pub gather-fits : (k n : ℕ) → k < n → length (gather f (numbersFrom k 0)) + length (f k) ≤ length (gather f (numbersFrom n 0))
   gather-fits k n h = omega (arith, length-more k, no-fewer (k + 1) n (omega arith))
 
 -- free places, one after another

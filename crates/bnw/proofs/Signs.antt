@@ -29,7 +29,7 @@ module _ (v : ℕ) (h : v < 65536) where
   unfolding signed
   signed-high l = toZ-ofZ signed-fits ∙ rw (le-ltb v 32768 l, word-pos)
 
--- a count that is negative is outOfRange as one that is too great
+-- a count that is negative is out of range, as one that is too great is
 module _ (low high v : ℕ) where
   signed-pos : v < 32768 → signed v ≡ pos v
   unfolding signed

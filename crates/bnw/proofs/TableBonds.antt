@@ -7,7 +7,7 @@ use native.Mathlib.Decide.{ℕ-discrete, decLt}
 use lib.ListN.{length, getD, length-append}
 use lib.Seq.{sets}
 use borrow.Author.Tests.{eq-eqb, ne-eqb, lt-ltb, le-ltb}
-use Rattle.graph.specs.Lists.{gather, count}
+use Rattle.graph.specs.Lists.{gather, numbersFrom}
 use Rattle.network.specs.Maxima.{places, free}
 use Rattle.bnw.specs.File.{Bond, bondAt, bondsOf, bondBytes, headLength, bondLength, twoBytes, mark, version, headOf}
 use Rattle.bnw.proofs.Runs.{gather-more, gather-append, length-more, gather-fits, sets-after}
@@ -45,10 +45,10 @@ module _ (t : List ℕ) (i : ℕ) where
 
 -- one word more
 module _ (t : List ℕ) where
-  pub counted-more : (i many r : ℕ) → many ≡ length (gather (bondAt t) (count i 0)) → r ≡ length (bondAt t i) → many + r ≡ length (gather (bondAt t) (count (i + 1) 0))
+  pub counted-more : (i many r : ℕ) → many ≡ length (gather (bondAt t) (numbersFrom i 0)) → r ≡ length (bondAt t i) → many + r ≡ length (gather (bondAt t) (numbersFrom (i + 1) 0))
   counted-more i many r e d = omega (arith, length-more (bondAt t) i)
 
-  pub counted-done : (i many : ℕ) → i ≤ length t → length t ≤ i → many ≡ length (gather (bondAt t) (count i 0)) → many ≡ length (bondsOf t)
+  pub counted-done : (i many : ℕ) → i ≤ length t → length t ≤ i → many ≡ length (gather (bondAt t) (numbersFrom i 0)) → many ≡ length (bondsOf t)
   unfolding bondsOf
   counted-done i many l h e = let d : length t ≡ i = omega arith in rw d e
 
@@ -86,21 +86,21 @@ bytes-length (b ∷ bonds) = length-append (bondBytes b) (gather bondBytes bonds
 
 -- the bonds written, word by word
 module _ (t : List ℕ) where
-  pub bonds-fit : (i : ℕ) → i < length t → length (gather (bondAt t) (count i 0)) + length (bondAt t i) ≤ length (bondsOf t)
+  pub bonds-fit : (i : ℕ) → i < length t → length (gather (bondAt t) (numbersFrom i 0)) + length (bondAt t i) ≤ length (bondsOf t)
   unfolding bondsOf
   bonds-fit i h = gather-fits (bondAt t) i (length t) h
 
-  pub past-more : (i at r : ℕ) → at ≡ headLength + bondLength * length (gather (bondAt t) (count i 0)) → r ≡ at + bondLength * length (bondAt t i)
-      → r ≡ headLength + bondLength * length (gather (bondAt t) (count (i + 1) 0))
+  pub past-more : (i at r : ℕ) → at ≡ headLength + bondLength * length (gather (bondAt t) (numbersFrom i 0)) → r ≡ at + bondLength * length (bondAt t i)
+      → r ≡ headLength + bondLength * length (gather (bondAt t) (numbersFrom (i + 1) 0))
   past-more i at r e d = omega (arith, length-more (bondAt t) i)
 
-  pub written-more : (l m o : List ℕ) (i at : ℕ) → at ≡ headLength + bondLength * length (gather (bondAt t) (count i 0)) → m ≡ sets l headLength (gather bondBytes (gather (bondAt t) (count i 0)))
-      → o ≡ sets m at (gather bondBytes (bondAt t i)) → o ≡ sets l headLength (gather bondBytes (gather (bondAt t) (count (i + 1) 0)))
+  pub written-more : (l m o : List ℕ) (i at : ℕ) → at ≡ headLength + bondLength * length (gather (bondAt t) (numbersFrom i 0)) → m ≡ sets l headLength (gather bondBytes (gather (bondAt t) (numbersFrom i 0)))
+      → o ≡ sets m at (gather bondBytes (bondAt t i)) → o ≡ sets l headLength (gather bondBytes (gather (bondAt t) (numbersFrom (i + 1) 0)))
   written-more l m o i at e d h =
-      h ∙ sets-after l m headLength at (gather bondBytes (gather (bondAt t) (count i 0))) (gather bondBytes (bondAt t i)) d (omega (arith, bytes-length (gather (bondAt t) (count i 0))))
-      ∙ ap (sets l headLength) (sym (ap (gather bondBytes) (gather-more (bondAt t) i) ∙ gather-append bondBytes (gather (bondAt t) (count i 0)) (bondAt t i)))
+      h ∙ sets-after l m headLength at (gather bondBytes (gather (bondAt t) (numbersFrom i 0))) (gather bondBytes (bondAt t i)) d (omega (arith, bytes-length (gather (bondAt t) (numbersFrom i 0))))
+      ∙ ap (sets l headLength) (sym (ap (gather bondBytes) (gather-more (bondAt t) i) ∙ gather-append bondBytes (gather (bondAt t) (numbersFrom i 0)) (bondAt t i)))
 
-  pub written-done : (l m : List ℕ) (i : ℕ) → i ≤ length t → length t ≤ i → m ≡ sets l headLength (gather bondBytes (gather (bondAt t) (count i 0))) → m ≡ sets l headLength (gather bondBytes (bondsOf t))
+  pub written-done : (l m : List ℕ) (i : ℕ) → i ≤ length t → length t ≤ i → m ≡ sets l headLength (gather bondBytes (gather (bondAt t) (numbersFrom i 0))) → m ≡ sets l headLength (gather bondBytes (bondsOf t))
   unfolding bondsOf
   written-done l m i h k e = let d : length t ≡ i = omega arith in rw d e
 

@@ -7,7 +7,7 @@ use native.Mathlib.Omega.{arith}
 use native.Mathlib.Decide.{decLt, ℕ-discrete}
 use lib.ListN.{length, getD, replicate, getD-replicate, List·getD-append}
 use lib.Seq.{getD-append-add}
-use Rattle.graph.specs.Lists.{_∈_, Ascending, gather, count}
+use Rattle.graph.specs.Lists.{_∈_, Ascending, gather, numbersFrom}
 use Rattle.graph.proofs.Lists.{gather-of, gather-has, gather-ascending, place-of, at-place}
 use Rattle.network.specs.Maxima.{places, free}
 use Rattle.network.specs.Network.{word, Holds, Bonded, Counted, IsNetwork}
@@ -91,16 +91,16 @@ ascending-places R d (x ∷ xs) h zero (suc j) l k = h .0 (getD xs j d) (at-plac
 ascending-places R d (x ∷ xs) h (suc i) (suc j) l k = ascending-places R d xs (h .1) i j (omega arith) (omega arith)
 
 -- rows of one length, one after another
-rows-at : (f : ℕ → List ℕ) → ((x : ℕ) → length (f x) ≡ places) → (n a x p : ℕ) → x < n → p < places → getD (gather f (count n a)) (x * places + p) 0 ≡ getD (f (a + x)) p 0
+rows-at : (f : ℕ → List ℕ) → ((x : ℕ) → length (f x) ≡ places) → (n a x p : ℕ) → x < n → p < places → getD (gather f (numbersFrom n a)) (x * places + p) 0 ≡ getD (f (a + x)) p 0
 rows-at f long zero a x p h l = absurd (omega arith)
 rows-at f long (suc n) a zero p h l =
     let e : zero * places + p ≡ p = omega arith in
     let d : a + zero ≡ a = omega arith in
-    rw (e, d) (List·getD-append (f a) (gather f (count n (suc a))) 0 p (omega (arith, long a)))
+    rw (e, d) (List·getD-append (f a) (gather f (numbersFrom n (suc a))) 0 p (omega (arith, long a)))
 rows-at f long (suc n) a (suc x) p h l =
     let e : suc x * places + p ≡ length (f a) + (x * places + p) = omega (arith, long a) in
     let d : a + suc x ≡ suc a + x = omega arith in
-    rw (e, d) (getD-append-add (f a) (gather f (count n (suc a))) (x * places + p) 0 ∙ rows-at f long n (suc a) x p (omega arith) l)
+    rw (e, d) (getD-append-add (f a) (gather f (numbersFrom n (suc a))) (x * places + p) 0 ∙ rows-at f long n (suc a) x p (omega arith) l)
 
 module _ (n : ℕ) (bonds : List Bond) (eight : (x : ℕ) → length (partners bonds x) ≤ places) (x p : ℕ) (l : x < n) (k : p < places) where
   word-of : word (tableOf n bonds) x p ≡ getD (rowOf bonds x) p 0

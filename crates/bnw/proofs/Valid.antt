@@ -9,13 +9,13 @@ use native.Mathlib.Omega.{arith}
 use native.Mathlib.Decide.{decLe, decLt, ℕ-discrete}
 use lib.ListN.{length, length-append}
 use borrow.Author.Tests.{eq-eqb, ne-eqb, lt-ltb, le-ltb}
-use Rattle.graph.specs.Lists.{_∈_, Ascending, count}
+use Rattle.graph.specs.Lists.{_∈_, Ascending, numbersFrom}
 use Rattle.graph.proofs.Lists.{map-of, count-of, append-ascending}
 use Rattle.network.specs.declared.Answer.{Answer}
 use Rattle.network.specs.Maxima.{places}
 use Rattle.network.specs.Verdict.{accepted}
 use Rattle.bnw.specs.File.{Bond, EarlierBond, partner, partners, ValidBonds}
-use Rattle.bnw.specs.Reading.{earlier, inOrder, bondsBelow, fileBondFault, orAt, firstBond}
+use Rattle.bnw.specs.Reading.{earlierBond, inOrder, bondsBelow, fileBondFault, orAt, firstBond}
 use Rattle.bnw.proofs.Runs.{map-more}
 use Rattle.bnw.proofs.Partners.{partner-first, partner-second, partner-none, partners-more, partners-start}
 use Rattle.bnw.proofs.BondFaults.{fault-first, fault-second, fault-order, fault-after, fault-ninth-first, fault-ninth-second, fault-none}
@@ -31,8 +31,8 @@ earlier-on a b c (inl h) (inr k) = inl (omega (arith, k .0))
 earlier-on a b c (inr h) (inl k) = inl (omega (arith, h .0))
 earlier-on a b c (inr h) (inr k) = inr (h .0 ∙ k .0, omega (arith, h .1, k .1))
 
-pub earlier-of : (a b : Bond) → earlier a b ≡ true → EarlierBond a b
-unfolding earlier
+pub earlier-of : (a b : Bond) → earlierBond a b ≡ true → EarlierBond a b
+unfolding earlierBond
 earlier-of a b e = go (decLt (a .first) (b .first)) (ℕ-discrete (a .first) (b .first)) (decLt (a .second) (b .second))
   where
     never : _≡_ {A = Bool} false true → ⊥
@@ -44,8 +44,8 @@ earlier-of a b e = go (decLt (a .first) (b .first)) (ℕ-discrete (a .first) (b 
     go (no l) (yes d) (no m) = absurd (never (rw (le-ltb (a .first) (b .first) (omega arith), eq-eqb (a .first) (b .first) d, le-ltb (a .second) (b .second) (omega arith)) at e))
     go (no l) (no d) _ = absurd (never (rw (le-ltb (a .first) (b .first) (omega arith), ne-eqb (a .first) (b .first) d) at e))
 
-pub earlier-is : (a b : Bond) → EarlierBond a b → earlier a b ≡ true
-unfolding earlier
+pub earlier-is : (a b : Bond) → EarlierBond a b → earlierBond a b ≡ true
+unfolding earlierBond
 earlier-is a b (inl l) = rw (lt-ltb (a .first) (b .first) l)
 earlier-is a b (inr h) = rw (le-ltb (a .first) (b .first) (omega (arith, h .0)), eq-eqb (a .first) (b .first) (h .0), lt-ltb (a .second) (b .second) (h .1))
 
@@ -111,7 +111,7 @@ module _ (n : ℕ) (bond : ℕ → Bond) (m : ℕ) (right : (k : ℕ) → k < m 
       go (no e) ih = earlier-on (bond j) (bond k) (bond (suc k)) (ih (omega arith) (omega arith)) (next k l)
 
   pub numbered : (k : ℕ) {b : Bond} → b ∈ bondsBelow bond k → (j : ℕ) × (j < k) × (b ≡ bond j)
-  numbered k h = let r = map-of bond (count k 0) h in (r .0, omega (arith, count-of k 0 (r .1) .1), r .2)
+  numbered k h = let r = map-of bond (numbersFrom k 0) h in (r .0, omega (arith, count-of k 0 (r .1) .1), r .2)
 
   rises : (k : ℕ) → k ≤ m → Ascending EarlierBond (bondsBelow bond k)
   rises zero h = tt

@@ -8,7 +8,7 @@
 --   bondBytes b               a bond: two unsigned 16-bit atoms
 --   headOf n bonds            the head: mark, version, atom count, bond count
 --   fileOf n bonds            the file: the head, then the bonds
---   EarlierBond a b               a comes before b: by the first atom and then the second
+--   EarlierBond a b           a comes before b: by the first atom and then the second
 --   partner x b               the other atom of a bond of x; none where x is not in the bond
 --   partners bonds x          the atoms bonded to x, in the order of the bonds
 --   ValidBonds n bonds        bonds as a file has them: smaller atom first, atoms below n, strictly ascending, at most 8 on an atom
@@ -23,7 +23,7 @@ use mathlib.Core.List.{List, [], _∷_, _++_}
 use Prim.Native.Nat.{ℕ, _+_, _-_, _*_, _/_, _%_, _≤_, _<_}
 use lib.Dec.{eqb, ltb}
 use lib.ListN.{length, getD, replicate}
-use Rattle.graph.specs.Lists.{_∈_, Ascending, gather, count}
+use Rattle.graph.specs.Lists.{_∈_, Ascending, gather, numbersFrom}
 use Rattle.network.specs.Maxima.{atomsMost, places, free}
 
 pub record Bond : Type 0 where
@@ -76,10 +76,10 @@ unfoldable pub rowOf : List Bond → ℕ → List ℕ
 rowOf bonds x = partners bonds x ++ replicate (places - length (partners bonds x)) free
 
 unfoldable pub tableOf : ℕ → List Bond → List ℕ
-tableOf n bonds = gather (rowOf bonds) (count n 0)
+tableOf n bonds = gather (rowOf bonds) (numbersFrom n 0)
 
 unfoldable pub bondAt : List ℕ → ℕ → List Bond
 bondAt t i = cond (not (eqb (getD t i 0) free) && ltb (i / places) (getD t i 0)) (record { first = i / places; second = getD t i 0 } ∷ []) []
 
 unfoldable pub bondsOf : List ℕ → List Bond
-bondsOf t = gather (bondAt t) (count (length t) 0)
+bondsOf t = gather (bondAt t) (numbersFrom (length t) 0)

@@ -2,7 +2,7 @@
 --
 --   Misplaced n bond k    26: an atom is not below n, the first is not below the second, or the bond is not after the previous one
 --   Ninth bond k          27: one of the bond's atoms has, among the bonds before it, as many as a row has places
---   NamesFirstBond n bond m a  the answer a names the first of m bonds at fault: 26 where the bond has both, and none earlier has either
+--   NamesFirstBond n bond m a    the answer a names the first of m bonds at fault: 26 where the bond has both, and none earlier has either
 use mathlib.Core.Path.{_≡_}
 use mathlib.Core.Logic.{_⊎_}
 use Prim.Native.Nat.{ℕ, suc, _≤_, _<_}

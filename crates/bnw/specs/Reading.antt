@@ -8,7 +8,7 @@
 --   marked file                   whether the file begins with the mark
 --   headFault file room           the first of 19 to 25, or 0, where the table lent has `room` words
 --   bondIn file k                 bond k of a file
---   earlier a b                   whether bond a comes before bond b
+--   earlierBond a b               whether bond a comes before bond b
 --   bondsBelow bond k             the bonds of number below k
 --   inside n b                    whether both atoms are below n, and the first is below the second
 --   inOrder bond k                whether bond k comes after the previous one, if there is one
@@ -20,7 +20,7 @@
 --   readValue file code           the signed value that goes with an answer: the count field at 22 and 23, otherwise 0
 --   ReadsAs file before after r   the file is that of r's atoms and some valid bonds, of r's number, and their table stands
 --                                 first in the table lent, of which the rest stays
---   ReadOutcome file before after r     what comes of reading: refused, nothing is changed and the counts are 0
+--   ReadOutcome file before after r    what comes of reading: refused, nothing is changed and the counts are 0
 use mathlib.Core.Path.{_≡_}
 use mathlib.Core.Bool.{Bool, true, cond, not, _&&_, _||_}
 use mathlib.Core.List.{List, _++_, map}
@@ -28,7 +28,7 @@ use Prim.Native.Nat.{ℕ, zero, suc, _+_, _-_, _*_, _<_}
 use lib.Dec.{eqb, leb, ltb}
 use lib.IntN.{ℤ, pos, negsuc, _-ℤ_}
 use lib.ListN.{length, getD, drop}
-use Rattle.graph.specs.Lists.{count}
+use Rattle.graph.specs.Lists.{numbersFrom}
 use Rattle.network.specs.declared.Answer.{Answer}
 use Rattle.network.specs.Maxima.{atomsMost, places}
 use Rattle.network.specs.Network.{Counted}
@@ -75,17 +75,17 @@ headFault file room =
 abbrev pub bondIn : List ℕ → ℕ → Bond
 bondIn file k = record { first = field file (headLength + bondLength * k); second = field file (headLength + bondLength * k + 2) }
 
-unfoldable pub earlier : Bond → Bond → Bool
-earlier a b = ltb (a .first) (b .first) || (eqb (a .first) (b .first) && ltb (a .second) (b .second))
+unfoldable pub earlierBond : Bond → Bond → Bool
+earlierBond a b = ltb (a .first) (b .first) || (eqb (a .first) (b .first) && ltb (a .second) (b .second))
 
 abbrev pub bondsBelow : (ℕ → Bond) → ℕ → List Bond
-bondsBelow bond k = map bond (count k 0)
+bondsBelow bond k = map bond (numbersFrom k 0)
 
 unfoldable pub inside : ℕ → Bond → Bool
 inside n b = ltb (b .first) n && ltb (b .second) n && ltb (b .first) (b .second)
 
 unfoldable pub inOrder : (ℕ → Bond) → ℕ → Bool
-inOrder bond k = eqb k 0 || earlier (bond (k - 1)) (bond k)
+inOrder bond k = eqb k 0 || earlierBond (bond (k - 1)) (bond k)
 
 unfoldable pub full : (ℕ → Bond) → ℕ → ℕ → Bool
 full bond k x = leb places (length (partners (bondsBelow bond k) x))

@@ -8,7 +8,7 @@ use bnw::FileRead;
 use network::Answer;
 ghost use Rattle.bnw.specs.Reading.{ReadOutcome};
 
-// ReadOutcome a file into the table lent, of which nothing is changed until the whole file is found right.
+// Reads a file into the table lent, of which nothing is changed until the whole file is found right.
 pub fn read(file: &[u8], table: &mut [u16]) -> FileRead
     ensures { λ r. ⌜ ReadOutcome (now (file .entry)) (now (table .entry)) (now (table .exit)) r ⌝ }
 {

@@ -6,7 +6,7 @@ use bnw::FileWritten;
 use network::Answer;
 ghost use Rattle.bnw.specs.Writing.{WriteOutcome};
 
-// WriteOutcome the file of a network into the bytes lent.
+// Writes the file of a network into the bytes lent.
 pub fn write(n: usize, table: &[u16], file: &mut [u8]) -> FileWritten
     ensures { λ r. ⌜ WriteOutcome n (now (table .entry)) (now (file .entry)) (now (file .exit)) r ⌝ }
 {

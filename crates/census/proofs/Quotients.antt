@@ -9,7 +9,7 @@ use lib.IntN.{pos, negsuc}
 use lib.Ieee.{Float, nan, inf, fin, binary64, div, ofInt, ofBits}
 use lib.Ieee.Exact.{HasValue}
 use lib.Ieee.Back.{round-whole}
-use Rattle.graph.specs.Lists.{count}
+use Rattle.graph.specs.Lists.{numbersFrom}
 use Rattle.graph.proofs.Lists.{every-of, count-has}
 use Rattle.network.specs.Maxima.{atomsMost}
 use Rattle.network.specs.Network.{Counted}
@@ -44,4 +44,4 @@ pub none-per-atom : (n : ℕ) → Counted n → quotient 0 n ≡ plusZero
 unfolding div ofInt
 none-per-atom n C =
     plus-zero-of (quotient 0 n)
-    (every-of (λ n. isPlusZero (quotient 0 n)) (count atomsMost 1) tt n (count-has atomsMost 1 n (C .some) (omega (arith, C .most))))
+    (every-of (λ n. isPlusZero (quotient 0 n)) (numbersFrom atomsMost 1) tt n (count-has atomsMost 1 n (C .some) (omega (arith, C .most))))

@@ -9,10 +9,11 @@
 --   countsBy size rings         a count for each length from 0 to the greatest
 --   censusWith n used counts total lengths words    an accepted call's numbers, with the averages of `total` rings whose lengths add up to `lengths`
 --   censusBy size told n used rings    what an accepted call says: every number is a function of the list of rings
---   plain, encode, countsOf, censusOf n limit rings    the same of rings of atoms, which are told by the atoms' numbers
---   afterCount allowance rings            12: more rings than the allowance
---   afterListBy told allowance room rings    12, then 13: more words than there is room for
---   afterList allowance room rings        the same of rings of atoms
+--   plain r                     the words of a ring of atoms: their numbers
+--   encode, countsOf, censusOf n limit rings    the same of rings of atoms
+--   afterCount allowance rings  12: more rings than the allowance
+--   afterListBy words allowance room rings    12, then 13: more words than there is room for
+--   afterList allowance room rings    the same of rings of atoms
 --   noCensus a                  what a call refused with the answer a says: every number is 0
 --   settle a c                  the census c, or a refusal, as the answer a has it
 --   settled n limit a rings     the same of the census of rings of atoms
@@ -32,7 +33,7 @@ use Prim.Native.Nat.{ℕ, _+_, _*_}
 use lib.Dec.{eqb, leb, ltb}
 use lib.ListN.{length, replicate}
 use lib.Seq.{sets}
-use Rattle.graph.specs.Lists.{count}
+use Rattle.graph.specs.Lists.{numbersFrom}
 use Rattle.graph.specs.Counts.{having, sumOf}
 use Rattle.graph.specs.Listing.{RingListing}
 use Rattle.network.specs.declared.Answer.{Answer}
@@ -56,12 +57,12 @@ unfoldable pub beforeSearch : ℕ → List ℕ → ℕ → ℕ → List ℕ → 
 beforeSearch n t limit allowance d =
     sizes n t (λ a. check 2 (notLimit limit) (check 3 (notAllowance allowance) a)) (check 5 (notLong d (n * n)) (faults n t accepted))
 
-unfoldable pub encodeBy : {Ring : Type 0} → (Ring → ℕ) → (Ring → List ℕ) → List Ring → List ℕ
+unfoldable pub encodeBy : {AnyRing : Type 0} → (AnyRing → ℕ) → (AnyRing → List ℕ) → List AnyRing → List ℕ
 encodeBy size told [] = []
 encodeBy size told (r ∷ rs) = size r ∷ (told r ++ encodeBy size told rs)
 
-unfoldable pub countsBy : {Ring : Type 0} → (Ring → ℕ) → List Ring → List ℕ
-countsBy size rings = map (λ k. having size k rings) (count (ringMost + 1) 0)
+unfoldable pub countsBy : {AnyRing : Type 0} → (AnyRing → ℕ) → List AnyRing → List ℕ
+countsBy size rings = map (λ k. having size k rings) (numbersFrom (ringMost + 1) 0)
 
 abbrev pub censusWith : ℕ → ℕ → List ℕ → ℕ → ℕ → ℕ → Census
 censusWith n used counts total lengths words = record {
@@ -73,7 +74,7 @@ censusWith n used counts total lengths words = record {
   averages = averagesOf n total lengths;
 }
 
-abbrev pub censusBy : {Ring : Type 0} → (Ring → ℕ) → (Ring → List ℕ) → ℕ → ℕ → List Ring → Census
+abbrev pub censusBy : {AnyRing : Type 0} → (AnyRing → ℕ) → (AnyRing → List ℕ) → ℕ → ℕ → List AnyRing → Census
 censusBy size told n used rings = censusWith n used (countsBy size rings) (length rings) (sumOf size rings) (length (encodeBy size told rings))
 
 abbrev pub plain : List ℕ → List ℕ
@@ -88,10 +89,10 @@ countsOf rings = countsBy length rings
 abbrev pub censusOf : ℕ → ℕ → List (List ℕ) → Census
 censusOf n limit rings = censusBy length plain n (limitOf limit) rings
 
-abbrev pub afterCount : {Ring : Type 0} → ℕ → List Ring → Answer
+abbrev pub afterCount : {AnyRing : Type 0} → ℕ → List AnyRing → Answer
 afterCount allowance rings = check 12 (ltb allowance (length rings)) accepted
 
-abbrev pub afterListBy : {Ring : Type 0} → (List Ring → List ℕ) → ℕ → ℕ → List Ring → Answer
+abbrev pub afterListBy : {AnyRing : Type 0} → (List AnyRing → List ℕ) → ℕ → ℕ → List AnyRing → Answer
 afterListBy words allowance room rings = check 12 (ltb allowance (length rings)) (check 13 (ltb room (length (words rings))) accepted)
 
 abbrev pub afterList : ℕ → ℕ → List (List ℕ) → Answer
@@ -113,22 +114,22 @@ settle a c = cond (eqb (a .code) 0) c (noCensus a)
 abbrev pub settled : ℕ → ℕ → Answer → List (List ℕ) → Census
 settled n limit a rings = settle a (censusOf n limit rings)
 
-module _ {Ring : Type 0} (IsListing : List Ring → Type 0) (census : List Ring → Census) where
-  pub record SearchReached (after-search : List Ring → Answer) (Filled : Type 0) (c : Census) : Type 0 where
+module _ {AnyRing : Type 0} (IsListing : List AnyRing → Type 0) (census : List AnyRing → Census) where
+  pub record SearchReached (after-search : List AnyRing → Answer) (Filled : Type 0) (c : Census) : Type 0 where
     pub filled : Filled
-    pub rings : List Ring
+    pub rings : List AnyRing
     pub listing : IsListing rings
     pub says : c ≡ settle (after-search rings) (census rings)
 
-  pub record SearchOutcome (before-search : Answer) (after-search : List Ring → Answer) (Kept Filled : Type 0) (c : Census) : Type 0 where
+  pub record SearchOutcome (before-search : Answer) (after-search : List AnyRing → Answer) (Kept Filled : Type 0) (c : Census) : Type 0 where
     pub refused : (before-search .code ≡ 0 → ⊥) → (c ≡ noCensus before-search) × Kept
     pub searched : before-search .code ≡ 0 → SearchReached after-search Filled c
 
-pub record ListingOutcome {Ring : Type 0} (IsListing : List Ring → Type 0) (numbers : List Ring → Census) (words : List Ring → List ℕ) (allowance : ℕ)
+pub record ListingOutcome {AnyRing : Type 0} (IsListing : List AnyRing → Type 0) (numbers : List AnyRing → Census) (words : List AnyRing → List ℕ) (allowance : ℕ)
     (before-search : Answer) (Kept Filled : Type 0) (l l′ : List ℕ) (c : Census) : Type 0 where
   pub census : SearchOutcome IsListing numbers before-search (afterListBy words allowance (length l)) Kept Filled c
   pub kept : (c .answer .code ≡ 0 → ⊥) → l′ ≡ l
-  pub written : c .answer .code ≡ 0 → (rings : List Ring) → IsListing rings → l′ ≡ sets l 0 (words rings)
+  pub written : c .answer .code ≡ 0 → (rings : List AnyRing) → IsListing rings → l′ ≡ sets l 0 (words rings)
 
 -- in a network of atoms
 abbrev pub Searched : ℕ → List ℕ → ℕ → (List (List ℕ) → Answer) → List ℕ → Census → Type 0

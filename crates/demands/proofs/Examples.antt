@@ -26,7 +26,7 @@ use Rattle.census.specs.declared.Census.{Census}
 use Rattle.census.specs.Census.{limitOf, encode, countsOf}
 use Rattle.census.proofs.Passed.{limit-given}
 use Rattle.census.proofs.Settled.{encode-words}
-use Rattle.search.proofs.Counts.{count-at}
+use Rattle.paths.proofs.Counts.{count-at}
 use Rattle.demands.specs.Refusals.{ListSays}
 use Rattle.demands.specs.Calls.{ListMet}
 use Rattle.demands.specs.Examples.{ExamplesHold, Enough, ExampleListed, ExamplesListed}

@@ -7,7 +7,7 @@ use Rattle.network.specs.Maxima.{places}
 use Rattle.network.specs.Verdict.{accepted, refusal}
 use Rattle.examples.specs.Examples.{rowsTable, P2}
 use Rattle.bnw.specs.File.{fileOf, bondAt, bondsOf, partner, partners, rowOf, tableOf}
-use Rattle.bnw.specs.Reading.{signed, outOfRange, marked, headFault, earlier, inside, inOrder, full, fileBondFault, bondIn, bondsBelow, orAt, firstBond, readVerdict, readValue}
+use Rattle.bnw.specs.Reading.{signed, outOfRange, marked, headFault, earlierBond, inside, inOrder, full, fileBondFault, bondIn, bondsBelow, orAt, firstBond, readVerdict, readValue}
 
 -- "BNW", version 1, so many atoms, nine bonds
 abbrev pub file : ℕ → ℕ → List ℕ
@@ -18,7 +18,7 @@ unfolding fileOf bondsOf bondAt
 figure-1-written = refl
 
 pub figure-1-accepted : readVerdict (file 7 0) (places * 7) ≡ accepted
-unfolding readVerdict headFault marked outOfRange signed fileBondFault inside inOrder earlier full partners partner orAt firstBond
+unfolding readVerdict headFault marked outOfRange signed fileBondFault inside inOrder earlierBond full partners partner orAt firstBond
 figure-1-accepted = refl
 
 pub figure-1-read : tableOf 7 (bondsBelow (bondIn (file 7 0)) 9) ≡ rowsTable (P2 .rows)

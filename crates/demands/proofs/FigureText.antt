@@ -15,7 +15,7 @@ use Rattle.examples.proofs.Examples.{examples-hold}
 use Rattle.census.specs.Census.{encodeBy, countsBy}
 use Rattle.census.proofs.Passed.{limit-default}
 use Rattle.bnw.specs.File.{bondAt, bondsOf, partner, partners}
-use Rattle.bnw.specs.Reading.{signed, outOfRange, marked, headFault, earlier, inside, inOrder, full, fileBondFault, orAt, firstBond, readVerdict}
+use Rattle.bnw.specs.Reading.{signed, outOfRange, marked, headFault, earlierBond, inside, inOrder, full, fileBondFault, orAt, firstBond, readVerdict}
 use Rattle.bnw.proofs.Returns.{bonds-valid, table-back}
 use Rattle.text.specs.Letters.{letters}
 use Rattle.text.specs.Lines.{digits, sizesText, ringText, countText, countsText, totalText, refusalText}
@@ -36,7 +36,7 @@ network : IsNetwork 7 table
 network = network-of 7 table (ap (λ (a : Answer). a .code) (holds .is-accepted))
 
 figure-accepted : readVerdict (file 7 0) tableWords ≡ accepted
-unfolding readVerdict headFault marked outOfRange signed fileBondFault inside inOrder earlier full partners partner orAt firstBond
+unfolding readVerdict headFault marked outOfRange signed fileBondFault inside inOrder earlierBond full partners partner orAt firstBond
 figure-accepted = refl
 
 figure-listing : ListingText 7 (length (bondsOf table)) table nineLines

@@ -4,7 +4,7 @@ use mathlib.Core.List.{List, [], _∷_, map}
 use Prim.Native.Nat.{ℕ, _+_}
 use native.Mathlib.Decide.{ℕ-discrete}
 use lib.ListN.{length}
-use Rattle.graph.specs.Lists.{count}
+use Rattle.graph.specs.Lists.{numbersFrom}
 use Rattle.graph.specs.Counts.{ofLength, lengthsOf}
 use Rattle.graph.specs.Listing.{RingListing}
 use Rattle.network.specs.declared.Answer.{Answer}
@@ -30,7 +30,7 @@ map-alike f g (k ∷ ks) h = ap₂ (λ (x : ℕ) (xs : List ℕ). x ∷ xs) (h k
 module _ (xs ys : List (List ℕ)) (each : (k : ℕ) → ofLength k xs ≡ ofLength k ys) (all : length xs ≡ length ys) (lengths : lengthsOf xs ≡ lengthsOf ys) (words : length (encode xs) ≡ length (encode ys)) where
   same-counts : countsOf xs ≡ countsOf ys
   unfolding countsBy
-  same-counts = map-alike _ _ (count (ringMost + 1) 0) each
+  same-counts = map-alike _ _ (numbersFrom (ringMost + 1) 0) each
 
   same-settled : (n limit : ℕ) (a b : Answer) → a ≡ b → settled n limit a xs ≡ settled n limit b ys
   same-settled n limit a b e = rw (e, same-counts, all, lengths, words)

@@ -14,7 +14,7 @@ use Rattle.graph.specs.Listing.{RingListing}
 use Rattle.graph.specs.Counts.{wordsOf}
 use Rattle.network.specs.Maxima.{places}
 use Rattle.network.specs.Network.{Bonded}
-use Rattle.network.specs.Chain.{Answers, Check, Sizes, Table, Places, Accepted}
+use Rattle.network.specs.Chain.{Answers, Check, Sizes, Table, PlaceByPlace, Accepted}
 use Rattle.ring.specs.Maxima.{ringLeast, ringMost, allowanceMost}
 use Rattle.ring.specs.FirstPlaces.{Sized, NotAtom, Repeated, Unbonded}
 use Rattle.census.specs.Census.{limitOf}
@@ -53,9 +53,9 @@ CandidateSays n t r dist =
     (Check 5 (length dist ≡ n * n)
     (Table n t
     (Check 14 (Sized (length r))
-    (Places 15 (NotAtom n r) (length r)
-    (Places 16 (Repeated r) (length r)
-    (Places 17 (Unbonded t r) (length r)
+    (PlaceByPlace 15 (NotAtom n r) (length r)
+    (PlaceByPlace 16 (Repeated r) (length r)
+    (PlaceByPlace 17 (Unbonded t r) (length r)
     Accepted))))))
 
 -- 1, 2, 3, 4, 5, 7 to 11: the checks before a search
@@ -87,7 +87,7 @@ RenumberSays n t names renamed =
     Sizes n t (λ Later. Later)
     (Check 6 ((length names ≡ n) × (length renamed ≡ places * n))
     (Table n t
-    (Places 18 (BadName n names) n
+    (PlaceByPlace 18 (BadName n names) n
     Accepted)))
 
 -- 1, 4, 7 to 11, 28

@@ -11,7 +11,7 @@ use mathlib.Core.Path.{_≡_}
 use mathlib.Core.List.{List, _++_, map}
 use Prim.Native.Nat.{ℕ, _+_, _<_}
 use lib.ListN.{length, drop}
-use Rattle.graph.specs.Lists.{count}
+use Rattle.graph.specs.Lists.{numbersFrom}
 use Rattle.graph.specs.Writing.{Reading, OneWriting}
 use Rattle.graph.specs.Standing.{StandExactly}
 use Rattle.graph.specs.Counts.{ofLength, lengthsOf, wordsOf}
@@ -21,12 +21,14 @@ use Rattle.census.specs.declared.Census.{Census}
 use Rattle.census.specs.Averages.{quotient, meanOf, meanValues}
 use Rattle.census.specs.Census.{limitOf, encode}
 
+-- a cycle of at most `limit` bonds is at its distances round the ring exactly when it stands in the list, once (exactly); nothing else stands there
+-- (cycles), each ring in its one writing (written), in list order (order)
 abbrev pub RingsStand : List ℕ → ℕ → List (List ℕ) → Type 0
 RingsStand t limit rings = StandExactly (Bonded t) 0 _<_ (Reading 0) OneWriting limit rings
 
 pub record Numbers (n : ℕ) (rings : List (List ℕ)) (c : Census) : Type 0 where
   -- one count for each length, 0 to the greatest, in this order: how many rings have that length
-  pub counts : c .counts ≡ map (λ k. ofLength k rings) (count (ringMost + 1) 0)
+  pub counts : c .counts ≡ map (λ k. ofLength k rings) (numbersFrom (ringMost + 1) 0)
   pub total : c .total ≡ length rings
   pub words : c .words ≡ wordsOf rings
   -- rings per atom, and their mean length: the sum of the lengths over the number of rings

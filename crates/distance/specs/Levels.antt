@@ -7,7 +7,7 @@
 --   level t d k v row         so do the k atoms from v on
 --   firstRow n s              the row before the first pass: s is at 0, no other atom has an entry
 --   unreached row             how many atoms have no entry
---   PassFilled old new r          r entries were filled on the way from old to new
+--   PassFilled old new r      r entries were filled on the way from old to new
 use mathlib.Core.Path.{_≡_}
 use mathlib.Core.List.{List, [], _∷_}
 use mathlib.Core.Bool.{cond}

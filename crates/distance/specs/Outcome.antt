@@ -1,7 +1,7 @@
 -- What comes of filling the distance buffer: the answer, and the buffer before and after.
 --
 --   distanceVerdict n t d        1, 4, 5, then 7 to 11
---   DistancesOutcome n t before after a   refused, not one byte is changed; accepted, the buffer is the distance table
+--   DistancesOutcome n t before after a    refused, not one byte is changed; accepted, the buffer is the distance table
 use mathlib.Core.Path.{_≡_}
 use mathlib.Core.List.{List}
 use Prim.Native.Nat.{ℕ, _*_}

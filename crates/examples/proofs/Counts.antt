@@ -4,11 +4,11 @@ use mathlib.Core.List.{_∷_, map}
 use Prim.Native.Nat.{ℕ, zero, suc, _+_, _≤_, _<_}
 use native.Mathlib.Omega.{arith}
 use lib.Dec.{ltb}
-use Rattle.graph.specs.Lists.{keep, count}
+use Rattle.graph.specs.Lists.{keep, numbersFrom}
 use Rattle.examples.specs.Examples.{byLength}
 
 module _ (f g : ℕ → ℕ) where
-  numbered : (n a : ℕ) → ((k : ℕ) → a ≤ k → k < a + n → f k ≡ g k) → map {B = ℕ × ℕ} (λ k. (k, f k)) (count n a) ≡ map (λ k. (k, g k)) (count n a)
+  numbered : (n a : ℕ) → ((k : ℕ) → a ≤ k → k < a + n → f k ≡ g k) → map {B = ℕ × ℕ} (λ k. (k, f k)) (numbersFrom n a) ≡ map (λ k. (k, g k)) (numbersFrom n a)
   numbered zero a h = refl
   numbered (suc n) a h = ap₂ _∷_ (ap (λ (m : ℕ). (a, m)) (h a (omega arith) (omega arith))) (numbered n (suc a) (λ k l m. h k (omega arith) (omega arith)))
 

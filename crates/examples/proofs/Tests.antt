@@ -8,7 +8,7 @@ use Prim.Native.Nat.{ℕ, zero, suc, _+_, _-_, _%_, _<_}
 use native.Mathlib.Omega.{arith}
 use lib.Dec.{T, eqb, leb, ltb, eqb→eq, eqb-refl, leb→le, ltb→lt, T-not}
 use lib.ListN.{length, getD}
-use Rattle.graph.specs.Lists.{_∈_, count, every}
+use Rattle.graph.specs.Lists.{_∈_, numbersFrom, every}
 use Rattle.graph.specs.Graph.{Ring}
 use Rattle.graph.specs.Writing.{Reading, OneWriting}
 use Rattle.graph.specs.Levels.{elem}
@@ -36,15 +36,15 @@ pair-of a b h = let p = and-T (eqb (a .0) (b .0)) (eqb (a .1) (b .1)) h in ap₂
 
 pub pair-at : (p : ℕ → ℕ → Bool) (k : ℕ) → T (everyPairOf p k) → (i j : ℕ) → i < j → j < k → T (p i j)
 pair-at p k h i j l m =
-    every-of (λ i. p i j) (count j 0)
-    (every-of (λ j. every (λ i. p i j) (count j 0)) (count k 0) h j (count-has k 0 j (omega arith) (omega arith)))
+    every-of (λ i. p i j) (numbersFrom j 0)
+    (every-of (λ j. every (λ i. p i j) (numbersFrom j 0)) (numbersFrom k 0) h j (count-has k 0 j (omega arith) (omega arith)))
     i (count-has j 0 i (omega arith) (omega arith))
 
 pub closed-of : (t r : List ℕ) → T (closed t r) → Ring (Bonded t) 0 r
 closed-of t r h =
     let a = and-T (leb 3 (length r)) _ h in
     let b = and-T (everyPairOf (λ i j. not (eqb (getD r i 0) (getD r j 0))) (length r)) _ (a .1) in
-    let c = and-T (every (λ i. elem eqb (getD r (suc i) 0) (neighbours t (getD r i 0))) (count (length r - 1) 0)) _ (b .1) in
+    let c = and-T (every (λ i. elem eqb (getD r (suc i) 0) (neighbours t (getD r i 0))) (numbersFrom (length r - 1) 0)) _ (b .1) in
     record {
       three = leb→le 3 (length r) (a .0);
       different = λ i j l k e.
@@ -53,7 +53,7 @@ closed-of t r h =
       next = λ i l.
           neighbour-bonded t (getD r i 0) (getD r (suc i) 0)
           (elem-of eqb eqb→eq eqb-refl (getD r (suc i) 0) (neighbours t (getD r i 0))
-          (every-of (λ i. elem eqb (getD r (suc i) 0) (neighbours t (getD r i 0))) (count (length r - 1) 0) (c .0) i (count-has (length r - 1) 0 i (omega arith) (omega arith))));
+          (every-of (λ i. elem eqb (getD r (suc i) 0) (neighbours t (getD r i 0))) (numbersFrom (length r - 1) 0) (c .0) i (count-has (length r - 1) 0 i (omega arith) (omega arith))));
       closes =
           neighbour-bonded t (getD r (length r - 1) 0) (getD r 0 0)
           (elem-of eqb eqb→eq eqb-refl (getD r 0 0) (neighbours t (getD r (length r - 1) 0)) (c .1));
@@ -66,17 +66,17 @@ written-of r h k = record { smallest = small; turn = ltb→lt (getD r 1 0) (getD
     small zero l m = absurd (omega arith)
     small (suc i) l m =
         ltb→lt (getD r 0 0) (getD r (suc i) 0)
-        (every-of (λ i. ltb (getD r 0 0) (getD r (suc i) 0)) (count (length r - 1) 0) h i (count-has (length r - 1) 0 i (omega arith) (omega arith)))
+        (every-of (λ i. ltb (getD r 0 0) (getD r (suc i) 0)) (numbersFrom (length r - 1) 0) h i (count-has (length r - 1) 0 i (omega arith) (omega arith)))
 
 module _ (r s : List ℕ) where
-  reads-at : (at : ℕ → ℕ) → s ≡ map (λ i. getD r (at i) 0) (count (length r) 0) → (length s ≡ length r) × ((i : ℕ) → i < length r → getD s i 0 ≡ getD r (at i) 0)
+  reads-at : (at : ℕ → ℕ) → s ≡ map (λ i. getD r (at i) 0) (numbersFrom (length r) 0) → (length s ≡ length r) × ((i : ℕ) → i < length r → getD s i 0 ≡ getD r (at i) 0)
   reads-at at e = (ap length e ∙ length-made (λ i. getD r (at i) 0) (length r), λ i l. ap (λ xs. getD xs i 0) e ∙ getD-made (λ i. getD r (at i) 0) 0 (length r) i l)
 
   pub reading-of : s ∈ readingsOf r → Reading 0 r s
   reading-of m = go (List·Memᴰ·cases-cons (from .2))
     where
-      from : (start : ℕ) × (start ∈ count (length r) 0) × (s ∈ readingsFrom r start)
-      from = gather-of (readingsFrom r) (count (length r) 0) m
+      from : (start : ℕ) × (start ∈ numbersFrom (length r) 0) × (s ∈ readingsFrom r start)
+      from = gather-of (readingsFrom r) (numbersFrom (length r) 0) m
 
       below : from .0 < length r
       below = omega (arith, count-of (length r) 0 (from .1))

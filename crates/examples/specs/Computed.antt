@@ -17,7 +17,7 @@ use mathlib.Core.List.{List, [], _∷_, map}
 use Prim.Native.Nat.{ℕ, suc, _+_, _-_, _%_}
 use lib.Dec.{eqb, leb}
 use lib.ListN.{length, getD}
-use Rattle.graph.specs.Lists.{gather, count, every}
+use Rattle.graph.specs.Lists.{gather, numbersFrom, every}
 use Rattle.graph.specs.Levels.{elem}
 use Rattle.graph.specs.Counts.{ofLength, wordsOf}
 use Rattle.graph.specs.Search.{ringsWithin, inWriting}
@@ -28,7 +28,7 @@ use Rattle.examples.specs.NearMisses.{distancesBy, everyPairOf, NearMiss
 use Rattle.examples.specs.Repeats.{smallestFirst, secondSmaller, Repeat}
 
 abbrev pub listOver : ℕ → List ℕ → ℕ → (ℕ → ℕ → ℕ) → List (List ℕ)
-listOver n t limit dist = ringsWithin 0 (count n 0) (neighbours t) dist inWriting limit
+listOver n t limit dist = ringsWithin 0 (numbersFrom n 0) (neighbours t) dist inWriting limit
 
 abbrev pub same : {A : Type 0} → (A → A → Bool) → List A → List A → Bool
 same eq [] [] = true
@@ -54,7 +54,7 @@ abbrev pub closed : List ℕ → List ℕ → Bool
 closed t r =
     leb 3 (length r)
     && (everyPairOf (λ i j. not (eqb (getD r i 0) (getD r j 0))) (length r)
-    && (every (λ i. elem eqb (getD r (suc i) 0) (neighbours t (getD r i 0))) (count (length r - 1) 0)
+    && (every (λ i. elem eqb (getD r (suc i) 0) (neighbours t (getD r i 0))) (numbersFrom (length r - 1) 0)
     && elem eqb (getD r 0 0) (neighbours t (getD r (length r - 1) 0))))
 
 abbrev pub misses : NearMiss → Bool
@@ -68,16 +68,16 @@ misses m =
     && passes (m .example))))))
 
 abbrev pub onwardsFrom : List ℕ → ℕ → List ℕ
-onwardsFrom r start = map (λ i. getD r ((start + i) % length r) 0) (count (length r) 0)
+onwardsFrom r start = map (λ i. getD r ((start + i) % length r) 0) (numbersFrom (length r) 0)
 
 abbrev pub backwardsFrom : List ℕ → ℕ → List ℕ
-backwardsFrom r start = map (λ i. getD r ((start + (length r - i)) % length r) 0) (count (length r) 0)
+backwardsFrom r start = map (λ i. getD r ((start + (length r - i)) % length r) 0) (numbersFrom (length r) 0)
 
 abbrev pub readingsFrom : List ℕ → ℕ → List (List ℕ)
 readingsFrom r start = onwardsFrom r start ∷ backwardsFrom r start ∷ []
 
 abbrev pub readingsOf : List ℕ → List (List ℕ)
-readingsOf r = gather (readingsFrom r) (count (length r) 0)
+readingsOf r = gather (readingsFrom r) (numbersFrom (length r) 0)
 
 abbrev pub takesTwice : Repeat → Bool
 takesTwice m =

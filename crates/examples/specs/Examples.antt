@@ -13,7 +13,7 @@ use mathlib.Core.List.{List, [], _∷_, _++_, map}
 use Prim.Native.Nat.{ℕ, suc, _-_}
 use lib.Dec.{ltb}
 use lib.ListN.{length, replicate}
-use Rattle.graph.specs.Lists.{_∈_, gather, keep, count}
+use Rattle.graph.specs.Lists.{_∈_, gather, keep, numbersFrom}
 use Rattle.graph.specs.Listing.{RingListing}
 use Rattle.graph.specs.Counts.{ofLength, wordsOf}
 use Rattle.network.specs.Maxima.{places, free}
@@ -31,7 +31,7 @@ abbrev pub rowsTable : List (List ℕ) → List ℕ
 rowsTable rows = gather (λ r. r ++ replicate (places - length r) free) rows
 
 abbrev pub byLength : ℕ → (ℕ → ℕ) → List (ℕ × ℕ)
-byLength limit f = keep (λ c. ltb 0 (c .1)) (map (λ k. (k, f k)) (count (suc limit) 0))
+byLength limit f = keep (λ c. ltb 0 (c .1)) (map (λ k. (k, f k)) (numbersFrom (suc limit) 0))
 
 pub record ExampleHolds (e : Example) : Type 0 where
   pub is-accepted : verdict (length (e .rows)) (rowsTable (e .rows)) ≡ accepted

@@ -18,7 +18,7 @@ use mathlib.Core.List.{List, [], _∷_}
 use Prim.Native.Nat.{ℕ, suc, _-_, _/_}
 use lib.Dec.{T, eqb, leb, ltb}
 use lib.ListN.{length, getD}
-use Rattle.graph.specs.Lists.{_∈_, keep, count, every}
+use Rattle.graph.specs.Lists.{_∈_, keep, numbersFrom, every}
 use Rattle.graph.specs.Graph.{around, Ring, ShortestPathRing}
 use Rattle.graph.specs.Levels.{elem}
 use Rattle.graph.specs.Search.{distanceTable, look}
@@ -32,7 +32,7 @@ abbrev pub distancesBy : ℕ → ℕ → (ℕ → List ℕ) → ℕ → ℕ → 
 distancesBy most n adj = look (suc most) (distanceTable (suc most) most n adj)
 
 abbrev pub everyPairOf : (ℕ → ℕ → Bool) → ℕ → Bool
-everyPairOf p k = every (λ j. every (λ i. p i j) (count j 0)) (count k 0)
+everyPairOf p k = every (λ j. every (λ i. p i j) (numbersFrom j 0)) (numbersFrom k 0)
 
 abbrev pub pairsFit : (ℕ → ℕ → Bool) → (ℕ → ℕ → ℕ) → List ℕ → Bool
 pairsFit which dist r = everyPairOf (λ i j. not (which i j) || eqb (dist (getD r i 0) (getD r j 0)) (around (length r) (j - i))) (length r)

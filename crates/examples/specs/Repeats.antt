@@ -14,7 +14,7 @@ use mathlib.Core.List.{List, [], _∷_}
 use Prim.Native.Nat.{ℕ, suc, _-_}
 use lib.Dec.{T, ltb}
 use lib.ListN.{length, getD}
-use Rattle.graph.specs.Lists.{_∈_, count, every}
+use Rattle.graph.specs.Lists.{_∈_, numbersFrom, every}
 use Rattle.graph.specs.Graph.{ShortestPathRing}
 use Rattle.graph.specs.Writing.{Reading, OneWriting}
 use Rattle.network.specs.Network.{Bonded, neighbours}
@@ -22,7 +22,7 @@ use Rattle.examples.specs.Examples.{Example, rowsTable, P4}
 use Rattle.examples.specs.NearMisses.{RingTest, distancesBy, pairsFit}
 
 abbrev pub smallestFirst : List ℕ → Bool
-smallestFirst r = every (λ i. ltb (getD r 0 0) (getD r (suc i) 0)) (count (length r - 1) 0)
+smallestFirst r = every (λ i. ltb (getD r 0 0) (getD r (suc i) 0)) (numbersFrom (length r - 1) 0)
 
 abbrev pub secondSmaller : List ℕ → Bool
 secondSmaller r = ltb (getD r 1 0) (getD r (length r - 1) 0)

@@ -14,10 +14,10 @@ use Rattle.graph.specs.Graph.{Ring}
 use Rattle.graph.specs.Listing.{Before, Listing, Listed}
 use Rattle.graph.specs.Standing.{OneEach}
 use Rattle.graph.specs.Counts.{having}
-use Rattle.graph.specs.Carried.{WritingOf, KeptBy, CarriedTo}
+use Rattle.graph.specs.Carried.{Renaming, WritingOf, KeptBy, CarriedTo}
 use Rattle.graph.proofs.Lists.{keep-of, keep-has, keep-ascending, getD-map, place-of, at-place, apart-places}
 use Rattle.graph.proofs.Pigeons.{pigeons}
-use Rattle.graph.proofs.Renamings.{Renaming, ring-there}
+use Rattle.graph.proofs.Renamings.{ring-there}
 use Rattle.graph.proofs.Counts.{same-sums, sum-of-ones}
 
 -- each member of xs has a member of ys, and no two have the same: there are no more of them

@@ -9,7 +9,7 @@ use native.Mathlib.Decide.{ℕ-discrete}
 use lib.Dec.{T, eqb, ltb, eqb→eq, eqb-refl, ltb→lt, lt→ltb, T-not, not-T}
 use lib.ListN.{length, getD, take}
 use lib.Seq.{getD-take, length-take-le}
-use Rattle.graph.specs.Lists.{count}
+use Rattle.graph.specs.Lists.{numbersFrom}
 use Rattle.graph.specs.Graph.{Distance}
 use Rattle.graph.specs.Writing.{OneWriting}
 use Rattle.graph.specs.Finite.{BondedBy, FiniteNetwork}
@@ -23,11 +23,11 @@ use Rattle.graph.proofs.Search.{searched}
 look-table : (far most size : ℕ) (adj : ℕ → List ℕ) (x y : ℕ) → x < size → y < size
     → look far (distanceTable far most size adj) x y ≡ hit eqb far (levels eqb adj (suc most) (x ∷ [])) 0 y
 look-table far most size adj x y h k =
-    let ex : getD (distanceTable far most size adj) x [] ≡ distanceRow far (count size 0) (levels eqb adj (suc most) (x ∷ [])) =
-    getD-map (λ z. distanceRow far (count size 0) (levels eqb adj (suc most) (z ∷ []))) (count size 0) x 0 [] (omega (arith, length-count size 0))
-    ∙ ap (λ z. distanceRow far (count size 0) (levels eqb adj (suc most) (z ∷ []))) (getD-count size 0 x 0 h ∙ omega arith) in
+    let ex : getD (distanceTable far most size adj) x [] ≡ distanceRow far (numbersFrom size 0) (levels eqb adj (suc most) (x ∷ [])) =
+    getD-map (λ z. distanceRow far (numbersFrom size 0) (levels eqb adj (suc most) (z ∷ []))) (numbersFrom size 0) x 0 [] (omega (arith, length-count size 0))
+    ∙ ap (λ z. distanceRow far (numbersFrom size 0) (levels eqb adj (suc most) (z ∷ []))) (getD-count size 0 x 0 h ∙ omega arith) in
     ap (λ t. getD t y far) ex
-    ∙ getD-map (λ z. hit eqb far (levels eqb adj (suc most) (x ∷ [])) 0 z) (count size 0) y 0 far (omega (arith, length-count size 0))
+    ∙ getD-map (λ z. hit eqb far (levels eqb adj (suc most) (x ∷ [])) 0 z) (numbersFrom size 0) y 0 far (omega (arith, length-count size 0))
     ∙ ap (hit eqb far (levels eqb adj (suc most) (x ∷ [])) 0) (getD-count size 0 y 0 k ∙ omega arith)
 
 in-writing-of : (r : List ℕ) → 3 ≤ length r → ((j : ℕ) → suc j < length r → T (inWriting (length r) (take (suc j) r) (getD r (suc j) 0))) → OneWriting r
@@ -66,9 +66,9 @@ in-writing-has r h w j l =
 -- the search over distances that are right as far as half a ring of the limit lists the rings
 pub listed-by : (size : ℕ) (adj : ℕ → List ℕ) → FiniteNetwork size adj → (dist : ℕ → ℕ → ℕ) (most : ℕ)
     → ((x y d : ℕ) → x < size → y < size → d ≤ most → (dist x y ≡ d) ↔ Distance (BondedBy adj) x y d)
-    → (limit : ℕ) → limit ≤ most + most + 1 → RingListing (BondedBy adj) limit (ringsWithin 0 (count size 0) adj dist inWriting limit)
+    → (limit : ℕ) → limit ≤ most + most + 1 → RingListing (BondedBy adj) limit (ringsWithin 0 (numbersFrom size 0) adj dist inWriting limit)
 listed-by size adj N dist most right =
-    searched 0 (count size 0) adj dist inWriting (λ x. x < size) OneWriting most
+    searched 0 (numbersFrom size 0) adj dist inWriting (λ x. x < size) OneWriting most
     (record {
       first-in = λ x m. omega (arith, count-of size 0 m .1);
       next-in = N .inside;
@@ -89,6 +89,6 @@ look-right size adj far most f x y d hx hy l =
 
 -- so the list over that table is the listing
 pub computed : (size : ℕ) (adj : ℕ → List ℕ) → FiniteNetwork size adj → (far most : ℕ) → most < far → (limit : ℕ) → limit ≤ most + most + 1
-    → RingListing (BondedBy adj) limit (ringsWithin 0 (count size 0) adj (look far (distanceTable far most size adj)) inWriting limit)
+    → RingListing (BondedBy adj) limit (ringsWithin 0 (numbersFrom size 0) adj (look far (distanceTable far most size adj)) inWriting limit)
 computed size adj N far most f =
     listed-by size adj N (look far (distanceTable far most size adj)) most (look-right size adj far most f)

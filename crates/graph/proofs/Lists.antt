@@ -9,7 +9,7 @@ use native.Mathlib.Decide.{ℕ-discrete}
 use lib.Dec.{T}
 use lib.ListN.{length, getD, drop, length-map}
 use lib.Seq.{sets, sets-eq}
-use Rattle.graph.specs.Lists.{_∈_, Ascending, gather, consIf, keep, count, every}
+use Rattle.graph.specs.Lists.{_∈_, Ascending, gather, consIf, keep, numbersFrom, every}
 
 -- words written from the start of a list stand before its rest
 pub sets-front : (l vs : List ℕ) → length vs ≤ length l → sets l 0 vs ≡ vs ++ drop (length vs) l
@@ -172,23 +172,23 @@ gather-ascending R S f (x ∷ xs) h own across =
     append-ascending S (f x) (gather f xs) (own x) (gather-ascending R S f xs (h .1) own across)
     (λ a b m n. let r = gather-of f xs n in across x (r .0) a b (h .0 (r .0) (r .1)) m (r .2))
 
-pub count-of : (n a : ℕ) {k : ℕ} → k ∈ count n a → (a ≤ k) × (k < a + n)
+pub count-of : (n a : ℕ) {k : ℕ} → k ∈ numbersFrom n a → (a ≤ k) × (k < a + n)
 count-of zero a h = absurd (List·Memᴰ·not-nil h)
 count-of (suc n) a {k} h = go (count-of n (suc a)) (List·Memᴰ·cases-cons h)
   where
-    go : (k ∈ count n (suc a) → (suc a ≤ k) × (k < suc a + n)) → (k ≡ a) ⊎ (k ∈ count n (suc a)) → (a ≤ k) × (k < a + suc n)
+    go : (k ∈ numbersFrom n (suc a) → (suc a ≤ k) × (k < suc a + n)) → (k ≡ a) ⊎ (k ∈ numbersFrom n (suc a)) → (a ≤ k) × (k < a + suc n)
     go ih (inl e) = omega arith
     go ih (inr m) = let r = ih m in omega arith
 
-pub count-ascending : (n a : ℕ) → Ascending _<_ (count n a)
+pub count-ascending : (n a : ℕ) → Ascending _<_ (numbersFrom n a)
 count-ascending zero a = tt
 count-ascending (suc n) a = (λ b m. count-of n (suc a) m .0, count-ascending n (suc a))
 
-pub count-has : (n a k : ℕ) → a ≤ k → k < a + n → k ∈ count n a
+pub count-has : (n a k : ℕ) → a ≤ k → k < a + n → k ∈ numbersFrom n a
 count-has zero a k h l = absurd (omega arith)
 count-has (suc n) a k h l = go (ℕ-discrete k a) (count-has n (suc a) k)
   where
-    go : Dec (k ≡ a) → (suc a ≤ k → k < suc a + n → k ∈ count n (suc a)) → k ∈ count (suc n) a
+    go : Dec (k ≡ a) → (suc a ≤ k → k < suc a + n → k ∈ numbersFrom n (suc a)) → k ∈ numbersFrom (suc n) a
     go (yes e) ih = List·Memᴰ·head e
     go (no e) ih = List·Memᴰ·tail (ih (omega arith) (omega arith))
 
@@ -198,11 +198,11 @@ getD-map f [] i a b h = absurd (omega arith)
 getD-map f (x ∷ l) zero a b h = refl
 getD-map f (x ∷ l) (suc i) a b h = getD-map f l i a b (omega arith)
 
-pub length-count : (n a : ℕ) → length (count n a) ≡ n
+pub length-count : (n a : ℕ) → length (numbersFrom n a) ≡ n
 length-count zero a = refl
 length-count (suc n) a = ap suc (length-count n (suc a))
 
-pub getD-count : (n a i d : ℕ) → i < n → getD (count n a) i d ≡ a + i
+pub getD-count : (n a i d : ℕ) → i < n → getD (numbersFrom n a) i d ≡ a + i
 getD-count zero a i d h = absurd (omega arith)
 getD-count (suc n) a zero d h = omega arith
 getD-count (suc n) a (suc i) d h = getD-count n (suc a) i d (omega arith) ∙ omega arith
@@ -218,8 +218,8 @@ map-same [] = refl
 map-same (x ∷ xs) = ap (λ ys. x ∷ ys) (map-same xs)
 
 -- a list made from its places
-pub length-made : {A : Type 0} (f : ℕ → A) (n : ℕ) → length (map f (count n 0)) ≡ n
-length-made f n = length-map (count n 0) f ∙ length-count n 0
+pub length-made : {A : Type 0} (f : ℕ → A) (n : ℕ) → length (map f (numbersFrom n 0)) ≡ n
+length-made f n = length-map (numbersFrom n 0) f ∙ length-count n 0
 
-pub getD-made : {A : Type 0} (f : ℕ → A) (d : A) (n i : ℕ) → i < n → getD (map f (count n 0)) i d ≡ f i
-getD-made f d n i l = getD-map f (count n 0) i 0 d (omega (arith, length-count n 0)) ∙ ap f (getD-count n 0 i 0 l ∙ omega arith)
+pub getD-made : {A : Type 0} (f : ℕ → A) (d : A) (n i : ℕ) → i < n → getD (map f (numbersFrom n 0)) i d ≡ f i
+getD-made f d n i l = getD-map f (numbersFrom n 0) i 0 d (omega (arith, length-count n 0)) ∙ ap f (getD-count n 0 i 0 l ∙ omega arith)

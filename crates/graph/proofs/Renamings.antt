@@ -8,15 +8,10 @@ use native.Mathlib.Decide.{decLt}
 use lib.ListN.{length, getD, length-map}
 use Rattle.graph.specs.Graph.{around, Walk, Distance, ShortestPathRing}
 use Rattle.graph.specs.Listing.{Before, Listing, Listed}
+use Rattle.graph.specs.Carried.{Renaming}
 use Rattle.graph.proofs.Lists.{getD-map, map-same}
 use Rattle.graph.proofs.Distances.{nearest-of, distance-of}
 use Rattle.graph.proofs.Rings.{ring-by-distances}
-
--- f renames the vertices of one network, g names them back; both carry bonds to bonds
-pub record Renaming {A B : Type 0} (Bonded : A → A → Type 0) (Bonded′ : B → B → Type 0) (f : A → B) (g : B → A) : Type 0 where
-  pub there : (x y : A) → Bonded x y → Bonded′ (f x) (f y)
-  pub home : (x y : B) → Bonded′ x y → Bonded (g x) (g y)
-  pub undone : (x y : A) → Bonded x y → g (f x) ≡ x
 
 module _ {A B : Type 0} {Bonded : A → A → Type 0} {Bonded′ : B → B → Type 0} {f : A → B} {g : B → A} (F : Renaming Bonded Bonded′ f g) where
   walk-there : (n : ℕ) (x y : A) → Walk Bonded n x y → Walk Bonded′ n (f x) (f y)

@@ -8,7 +8,7 @@ use native.Mathlib.Omega.{arith}
 use lib.Dec.{T, eqb, eqb→eq, eqb-refl}
 use lib.ListN.{length, getD, take}
 use lib.Seq.{getD-take, length-take-le}
-use Rattle.graph.specs.Lists.{_∈_, Ascending, count}
+use Rattle.graph.specs.Lists.{_∈_, Ascending, numbersFrom}
 use Rattle.graph.specs.Graph.{Distance, around, ShortestPathRing}
 use Rattle.graph.specs.Finite.{BondedBy}
 use Rattle.graph.specs.Listing.{Lex, Before, Listing, Listed}
@@ -178,7 +178,7 @@ module _ {Vertex : Type 0} (o : Vertex) (vertices : List Vertex) (adj : Vertex �
         where
           sound : (r : List Vertex) → r ∈ ringsWithin o vertices adj dist allowed limit → Listed (BondedBy adj) o Written limit r
           sound r m =
-              let g = gather-of ringsOf (count (limit - 2) 3) m in
+              let g = gather-of ringsOf (numbersFrom (limit - 2) 3) m in
               let n = count-of (limit - 2) 3 (g .1) in
               let e = grow-of (follow (g .0)) (g .0) [] r (g .2) .0 in
               let w = rings-of r (omega arith) (omega arith) (subst (λ k. r ∈ ringsOf k) (sym e) (g .2)) in
@@ -194,6 +194,6 @@ module _ {Vertex : Type 0} (o : Vertex) (vertices : List Vertex) (adj : Vertex �
               (λ t m. inr (f s (List·Memᴰ·head refl) ∙ sym (f t (List·Memᴰ·tail m)), h .0 t m), up-lex ss k (λ t m. f t (List·Memᴰ·tail m)) (h .1))
 
           asc : Ascending (Before R) (ringsWithin o vertices adj dist allowed limit)
-          asc = gather-ascending _<_ (Before R) ringsOf (count (limit - 2) 3) (count-ascending (limit - 2) 3)
+          asc = gather-ascending _<_ (Before R) ringsOf (numbersFrom (limit - 2) 3) (count-ascending (limit - 2) 3)
               (λ k. up-lex (ringsOf k) k (λ s m. grow-of (follow k) k [] s m .0) (grow-ascending (follow k) R (following-ascending k) k []))
               (λ a b x y lt mx my. inl (omega (arith, grow-of (follow a) a [] x mx .0, grow-of (follow b) b [] y my .0)))

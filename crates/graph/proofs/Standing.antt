@@ -6,9 +6,9 @@ use native.Mathlib.Omega.{arith}
 use native.Mathlib.Decide.{decLt}
 use lib.ListN.{length, getD}
 use Rattle.graph.specs.Lists.{_∈_, Ascending}
-use Rattle.graph.specs.Graph.{Ring}
+use Rattle.graph.specs.Graph.{Ring, RoundIsDistance}
 use Rattle.graph.specs.Listing.{Before, Listing, Listed}
-use Rattle.graph.specs.Standing.{RoundIsDistance, StandsOnce, StandExactly, OneEach}
+use Rattle.graph.specs.Standing.{StandsOnce, StandExactly, OneEach}
 use Rattle.graph.proofs.Lists.{place-of, at-place, apart-places}
 
 module _ {A : Type 0} {_≺_ : A → A → Type 0} (strict : (r : List A) → Before _≺_ r r → ⊥) where

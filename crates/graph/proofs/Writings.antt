@@ -8,12 +8,12 @@ use native.Mathlib.Decide.{decLe, decLt, ℕ-discrete}
 use native.Mathlib.Omega.{arith}
 use lib.ListN.{length, getD}
 use lib.Seq.{ext-getD}
-use Rattle.graph.specs.Lists.{count}
+use Rattle.graph.specs.Lists.{numbersFrom}
 use Rattle.graph.specs.Graph.{Ring}
 use Rattle.graph.specs.Standing.{OneEach}
 use Rattle.graph.specs.Writing.{Onwards, Backwards, Reading, OneWriting}
 use Rattle.graph.proofs.Lists.{length-made, getD-made}
-use Rattle.graph.proofs.Readings.{Wrapped, wrap, wrapped, reaches, reading-shortest, reading-back}
+use Rattle.graph.proofs.Readings.{Wrapped, wrap, wrapped, reaches, reading-self, reading-shortest, reading-back}
 
 -- of the least numbers of a list, one stands at a place
 least-place : (r : List ℕ) (n : ℕ) → 0 < n → (m : ℕ) × (m < n) × ((i : ℕ) → i < n → getD r m 0 ≤ getD r i 0)
@@ -157,7 +157,7 @@ module _ (r : List ℕ) (h : 3 ≤ length r) (d : (i j : ℕ) → i < j → j < 
 
 -- at least one
 read : List ℕ → (ℕ → ℕ) → List ℕ
-read r q = map (λ i. getD r (q i) 0) (count (length r) 0)
+read r q = map (λ i. getD r (q i) 0) (numbersFrom (length r) 0)
 
 read-length : (r : List ℕ) (q : ℕ → ℕ) → length (read r q) ≡ length r
 unfolding read
@@ -203,6 +203,7 @@ exactly-one-writing Bonded r R =
 -- a network of atoms has one writing of each ring
 pub one-each : (Bonded : ℕ → ℕ → Type 0) → ((x y : ℕ) → Bonded x y → Bonded y x) → OneEach Bonded 0 (Reading 0) OneWriting
 one-each Bonded back = record {
+  self = λ r h. reading-self 0 r (omega arith);
   alike = λ r s R. R .alike;
   back = reading-back 0;
   shortest = reading-shortest 0 Bonded back;

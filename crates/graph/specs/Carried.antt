@@ -1,5 +1,6 @@
 -- Rings under new names (demand 3), over any vertex, any notion of the same ring (Same) and any writing (Written).
 --
+--   Renaming Bonded Bonded′ f g          f renames the vertices of one network, g names them back; both carry bonds to bonds
 --   WritingOf Same Written r s           s is the one writing of the ring r
 --   KeptBy Same Written f xs ys mark mark′    a number that a ring keeps: mark′ of each ring of ys is mark of the ring of xs whose new name it is
 --   CarriedTo Same Written f xs ys       the rings of ys are those of xs under the names f, each in its one writing; every number that a ring
@@ -11,6 +12,11 @@ use Prim.Native.Nat.{ℕ}
 use lib.ListN.{length}
 use Rattle.graph.specs.Lists.{_∈_}
 use Rattle.graph.specs.Counts.{having, sumOf}
+
+pub record Renaming {A B : Type 0} (Bonded : A → A → Type 0) (Bonded′ : B → B → Type 0) (f : A → B) (g : B → A) : Type 0 where
+  pub there : (x y : A) → Bonded x y → Bonded′ (f x) (f y)
+  pub home : (x y : B) → Bonded′ x y → Bonded (g x) (g y)
+  pub undone : (x y : A) → Bonded x y → g (f x) ≡ x
 
 module _ {Vertex : Type 0} (Same : List Vertex → List Vertex → Type 0) (Written : List Vertex → Type 0) where
   abbrev pub WritingOf : List Vertex → List Vertex → Type 0

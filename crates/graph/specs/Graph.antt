@@ -8,7 +8,8 @@
 --   Tells far x y e        e is the distance from x to y, or far where there is no path
 --   around k g             ring distance: the shorter way round a ring of k between places g apart (III: dist_R)
 --   Ring r                 at least three different vertices, each bonded to the next, the last to the first (II: a closed loop)
---   ShortestPathRing r     a ring, each pair of whose vertices is at ring distance in the network (III: dist_G = dist_R)
+--   RoundIsDistance r      between any two vertices of r the distance round the ring is the distance in the network (III: dist_G = dist_R)
+--   ShortestPathRing r     a ring of which that is so
 --
 -- A graph is given by what is bonded to what, over any type of vertices: the atoms of a finite network, or of an endless crystal.
 -- `getD r i o` is the vertex at place i of r; `o` is any vertex, read past the end.
@@ -53,6 +54,9 @@ module _ {Vertex : Type 0} (Bonded : Vertex → Vertex → Type 0) (o : Vertex) 
     pub next : (i : ℕ) → suc i < length r → Bonded (getD r i o) (getD r (suc i) o)
     pub closes : Bonded (getD r (length r - 1) o) (getD r 0 o)
 
+  abbrev pub RoundIsDistance : List Vertex → Type 0
+  RoundIsDistance r = (i j : ℕ) → i < j → j < length r → Distance Bonded (getD r i o) (getD r j o) (around (length r) (j - i))
+
   pub record ShortestPathRing (r : List Vertex) : Type 0 where
     pub ring : Ring r
-    pub shortest : (i j : ℕ) → i < j → j < length r → Distance Bonded (getD r i o) (getD r j o) (around (length r) (j - i))
+    pub shortest : RoundIsDistance r

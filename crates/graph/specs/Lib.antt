@@ -1,4 +1,5 @@
--- The paper's definitions, over any kind of vertex. Read Graph, Writing and Listing; the rest computes.
+-- The paper's definitions, over any kind of vertex. Read Graph, Writing and Listing, then Standing and Carried (demands 2 and 3), Counts
+-- and Finite; the rest computes.
 pub mod Lists
 pub mod Graph
 pub mod Writing

@@ -5,7 +5,7 @@
 --   gather f xs      f's lists for all members of xs, one after another
 --   consIf b x xs    x before xs where b is true, else xs
 --   keep p xs        the members that pass the test p, in order
---   count n a        the n numbers from a on
+--   numbersFrom n a  the n numbers from a on
 --   every p xs       whether every member passes the test p
 use mathlib.Core.Bool.{Bool, true, false, _&&_}
 use mathlib.Core.List.{List, [], _∷_, _++_, List·Memᴰ}
@@ -32,9 +32,9 @@ abbrev pub keep : {A : Type 0} → (A → Bool) → List A → List A
 keep p [] = []
 keep p (x ∷ xs) = consIf (p x) x (keep p xs)
 
-abbrev pub count : ℕ → ℕ → List ℕ
-count zero a = []
-count (suc n) a = a ∷ count n (suc a)
+abbrev pub numbersFrom : ℕ → ℕ → List ℕ
+numbersFrom zero a = []
+numbersFrom (suc n) a = a ∷ numbersFrom n (suc a)
 
 abbrev pub every : {A : Type 0} → (A → Bool) → List A → Bool
 every p [] = true

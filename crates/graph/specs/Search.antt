@@ -1,7 +1,7 @@
 -- The list of rings computed depth first over a table of distances (document 001, VI B).
 --
 --   grow next m p            every way to lengthen the path p by m vertices, where `next q` lists what may follow q
---   atRingDistances dist k p v  v, put after p, is at the distances of a ring of k from every vertex of p
+--   atRingDistances dist k p v    v, put after p, is at the distances of a ring of k from every vertex of p
 --   following .. k p         what may follow p on a ring of k
 --   rings .. k               the rings of k vertices
 --   ringsWithin .. limit     the rings of 3 to limit vertices
@@ -14,7 +14,7 @@ use mathlib.Core.List.{List, [], _∷_, _++_, map}
 use Prim.Native.Nat.{ℕ, zero, suc, _-_}
 use lib.Dec.{eqb, ltb}
 use lib.ListN.{length, getD}
-use Rattle.graph.specs.Lists.{gather, keep, count}
+use Rattle.graph.specs.Lists.{gather, keep, numbersFrom}
 use Rattle.graph.specs.Graph.{around}
 use Rattle.graph.specs.Levels.{hit, levels}
 
@@ -37,7 +37,7 @@ module _ {Vertex : Type 0} (o : Vertex) (vertices : List Vertex) (adj : Vertex �
   rings k = grow (following k) k []
 
   abbrev pub ringsWithin : ℕ → List (List Vertex)
-  ringsWithin limit = gather rings (count (limit - 2) 3)
+  ringsWithin limit = gather rings (numbersFrom (limit - 2) 3)
 
 abbrev pub inWriting : ℕ → List ℕ → ℕ → Bool
 inWriting k p v = ltb (getD p 0 0) v && (not (eqb (suc (length p)) k) || ltb (getD p 1 0) v)
@@ -46,7 +46,7 @@ abbrev pub distanceRow : ℕ → List ℕ → List (List ℕ) → List ℕ
 distanceRow far atoms ls = map (λ y. hit eqb far ls 0 y) atoms
 
 abbrev pub distanceTable : ℕ → ℕ → ℕ → (ℕ → List ℕ) → List (List ℕ)
-distanceTable far cap size adj = map (λ x. distanceRow far (count size 0) (levels eqb adj (suc cap) (x ∷ []))) (count size 0)
+distanceTable far cap size adj = map (λ x. distanceRow far (numbersFrom size 0) (levels eqb adj (suc cap) (x ∷ []))) (numbersFrom size 0)
 
 abbrev pub look : ℕ → List (List ℕ) → ℕ → ℕ → ℕ
 look far t x y = getD (getD t x []) y far

@@ -1,21 +1,18 @@
 -- What stands in a list of rings (demand 2), over any form of network: a form says which lists of vertices are the same ring (Same),
 -- and which of them is its one writing (Written).
 --
---   RoundIsDistance Bonded o r         between any two vertices of r the distance round the ring is the distance in the network
 --   StandsOnce Same rings r            one of the writings of r stands at one place of the list, and no other at any place
 --   StandExactly .. limit rings        what stands in the list: exactly the rings of which that is so, each in its one writing, in list order
---   OneEach Bonded o Same Written      what a form has to be: the same ring is as long, and as short; and each ring has one writing
+--   OneEach Bonded o Same Written      what a form has to be: a ring is the same as itself, and the same there and back; the same ring is as long, and
+--                                      a shortest-path ring too; and each ring has one writing
 use mathlib.Core.Path.{_≡_}
 use mathlib.Core.Logic.{_↔_}
 use mathlib.Core.List.{List, []}
-use Prim.Native.Nat.{ℕ, _-_, _≤_, _<_}
+use Prim.Native.Nat.{ℕ, _≤_, _<_}
 use lib.ListN.{length, getD}
 use Rattle.graph.specs.Lists.{_∈_, Ascending}
-use Rattle.graph.specs.Graph.{Distance, around, Ring, ShortestPathRing}
+use Rattle.graph.specs.Graph.{Ring, RoundIsDistance, ShortestPathRing}
 use Rattle.graph.specs.Listing.{Before}
-
-abbrev pub RoundIsDistance : {Vertex : Type 0} → (Vertex → Vertex → Type 0) → Vertex → List Vertex → Type 0
-RoundIsDistance Bonded o r = (i j : ℕ) → i < j → j < length r → Distance Bonded (getD r i o) (getD r j o) (around (length r) (j - i))
 
 pub record StandsOnce {Vertex : Type 0} (Same : List Vertex → List Vertex → Type 0) (rings : List (List Vertex)) (r : List Vertex) : Type 0 where
   pub writing : List Vertex
@@ -36,6 +33,7 @@ module _ {Vertex : Type 0} (Bonded : Vertex → Vertex → Type 0) (o : Vertex) 
     pub order : Ascending (Before _≺_) rings
 
 pub record OneEach {Vertex : Type 0} (Bonded : Vertex → Vertex → Type 0) (o : Vertex) (Same : List Vertex → List Vertex → Type 0) (Written : List Vertex → Type 0) : Type 0 where
+  pub self : (r : List Vertex) → 3 ≤ length r → Same r r
   pub alike : (r s : List Vertex) → Same r s → length s ≡ length r
   pub back : (r s : List Vertex) → Same r s → Same s r
   pub shortest : (r s : List Vertex) → Same r s → ShortestPathRing Bonded o r → ShortestPathRing Bonded o s

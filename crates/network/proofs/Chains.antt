@@ -14,7 +14,7 @@ use Rattle.network.specs.Maxima.{atomsMost, places}
 use Rattle.network.specs.Network.{Counted, IsNetwork}
 use Rattle.network.specs.Verdict.{answer, refusal, check, notAtoms, notLong, sizes, faults}
 use Rattle.network.specs.FirstFault.{AtPlace, Unanswered, NamesFirst}
-use Rattle.network.specs.Chain.{Answers, OneAnswer, Check, Sizes, Table, Places, Accepted}
+use Rattle.network.specs.Chain.{Answers, OneAnswer, Check, Sizes, Table, PlaceByPlace, Accepted}
 use Rattle.network.proofs.Verdicts.{atoms, long, not-long}
 use Rattle.network.proofs.FirstFaults.{same-place, one-first}
 use Rattle.network.proofs.FaultlessTables.{no-first, table-told}
@@ -82,8 +82,8 @@ pub one-check : (c : ℕ) (Right : Type 0) (Later : Answers) → OneAnswer Later
 unfolding Check
 one-check c Right Later = one-link (λ a. (Right → ⊥) × (a ≡ refusal c)) Right Later (λ a b h k. h .1 ∙ sym (k .1)) (λ a h r. h .0 r)
 
-pub one-places : (c : ℕ) (Bad : ℕ → Type 0) (m : ℕ) (Later : Answers) → OneAnswer Later → OneAnswer (Places c Bad m Later)
-unfolding Places
+pub one-places : (c : ℕ) (Bad : ℕ → Type 0) (m : ℕ) (Later : Answers) → OneAnswer Later → OneAnswer (PlaceByPlace c Bad m Later)
+unfolding PlaceByPlace
 one-places c Bad m Later =
     one-link (λ a. (p : ℕ) × (p < m) × Bad p × ((i : ℕ) → i < p → Bad i → ⊥) × (a ≡ answer c 0 p)) ((i : ℕ) → i < m → Bad i → ⊥) Later
     (λ a b h k. h .4 ∙ ap (λ (p : ℕ). answer c 0 p) (same-place (h .0) (k .0) (λ l. k .3 (h .0) l (h .2)) (λ l. h .3 (k .0) l (k .2))) ∙ sym (k .4))
@@ -94,12 +94,12 @@ unfolding Table
 one-table n t Later = one-link (NamesFirst n t) (IsNetwork n t) Later (one-first n (AtPlace n t) (Unanswered n t)) (λ a h N. no-first n t N a h)
 
 -- the first bad place is named; where none is bad what comes later says
-pub places-at : (c : ℕ) (Bad : ℕ → Type 0) (k : ℕ) (Later : Answers) (p : ℕ) → p < k → Bad p → ((i : ℕ) → i < p → Bad i → ⊥) → Places c Bad k Later (answer c 0 p)
-unfolding Places
+pub places-at : (c : ℕ) (Bad : ℕ → Type 0) (k : ℕ) (Later : Answers) (p : ℕ) → p < k → Bad p → ((i : ℕ) → i < p → Bad i → ⊥) → PlaceByPlace c Bad k Later (answer c 0 p)
+unfolding PlaceByPlace
 places-at c Bad k Later p l b first = inl (p, l, b, first, refl)
 
-pub places-right : (c : ℕ) (Bad : ℕ → Type 0) (k : ℕ) (Later : Answers) (a : Answer) → ((i : ℕ) → i < k → Bad i → ⊥) → Later a → Places c Bad k Later a
-unfolding Places
+pub places-right : (c : ℕ) (Bad : ℕ → Type 0) (k : ℕ) (Later : Answers) (a : Answer) → ((i : ℕ) → i < k → Bad i → ⊥) → Later a → PlaceByPlace c Bad k Later a
+unfolding PlaceByPlace
 places-right c Bad k Later a h l = inr (h, l)
 
 -- accepted
@@ -131,7 +131,7 @@ module _ (n : ℕ) (t : List ℕ) where
   table-passed Later a (inl F) z = absurd (omega (arith, z, first-number a F .0))
   table-passed Later a (inr h) z = h
 
-pub places-passed : (c : ℕ) (Bad : ℕ → Type 0) (k : ℕ) (Later : Answers) (a : Answer) → (c ≡ 0 → ⊥) → Places c Bad k Later a → a .code ≡ 0 → ((i : ℕ) → i < k → Bad i → ⊥) × Later a
-unfolding Places
+pub places-passed : (c : ℕ) (Bad : ℕ → Type 0) (k : ℕ) (Later : Answers) (a : Answer) → (c ≡ 0 → ⊥) → PlaceByPlace c Bad k Later a → a .code ≡ 0 → ((i : ℕ) → i < k → Bad i → ⊥) × Later a
+unfolding PlaceByPlace
 places-passed c Bad k Later a s (inl h) z = absurd (s (ap (λ (b : Answer). b .code) (sym (h .4)) ∙ z))
 places-passed c Bad k Later a s (inr h) z = h

@@ -11,8 +11,8 @@ use Rattle.network.specs.declared.Answer.{Answer}
 use Rattle.network.specs.Maxima.{places}
 use Rattle.network.specs.Network.{word, Holds, Bonded, Counted, IsNetwork}
 use Rattle.network.specs.Verdict.{faults, stands}
-use Rattle.network.specs.FirstFault.{AtPlace, Unanswered, NamesFirst}
-use Rattle.network.proofs.FirstFaults.{Faultless, faultless-none}
+use Rattle.network.specs.FirstFault.{AtPlace, Unanswered, NamesFirst, Faultless}
+use Rattle.network.proofs.FirstFaults.{faultless-none}
 use Rattle.network.proofs.TableFaults.{found, finds, faults-told}
 
 abbrev Clean : ℕ → List ℕ → Type 0

@@ -12,10 +12,10 @@ use Rattle.network.specs.declared.Answer.{Answer}
 use Rattle.network.specs.Maxima.{places, free}
 use Rattle.network.specs.Network.{word, Holds, Counted}
 use Rattle.network.specs.Verdict.{placeFault, bondFault, faults, stands}
-use Rattle.network.specs.FirstFault.{Outside, AfterFree, Own, NotAbove, AtPlace, Unanswered, NamesFirst}
+use Rattle.network.specs.FirstFault.{Outside, AfterFree, Own, NotAbove, AtPlace, Unanswered, NamesFirst, NumberOf, Faultless}
 use Rattle.network.proofs.PlaceFaults.{fault-free, fault-7, fault-8, fault-9, fault-9-first, fault-10, fault-none, fault-none-first, bond-free, bond-answered, bond-unanswered}
 use Rattle.network.proofs.Verdicts.{below}
-use Rattle.network.proofs.FirstFaults.{NumberOf, Faultless, first-told}
+use Rattle.network.proofs.FirstFaults.{first-told}
 
 -- a search through a row that finds, and what it finds
 pub found : (t : List ℕ) (x y k p : ℕ) → stands t x y k p ≡ true → (q : ℕ) × (q < p + k) × (word t y q ≡ x)

@@ -6,7 +6,7 @@
 --   Check c Right Later a       c where the input is not right; else it is right, and what comes later says
 --   Sizes n t Between Later a   what every call with a table begins with: 1, what is checked between, 4, and what comes later
 --   Table n t Later a           the first of 7 to 11 in the table; else it is the table of a network, and what comes later says
---   Places c Bad k Later a      c at row 0 and the first bad of k places; else none is bad, and what comes later says
+--   PlaceByPlace c Bad k Later a    c at row 0 and the first bad of k places; else none is bad, and what comes later says
 --   Accepted a                  accepted: 0 at row 0, place 0
 use mathlib.Core.Path.{_≡_}
 use mathlib.Core.Logic.{_⊎_}
@@ -34,8 +34,8 @@ Sizes n t Between Later = Check 1 (Counted n) (Between (Check 4 (length t ≡ pl
 unfoldable pub Table : ℕ → List ℕ → Answers → Answers
 Table n t Later a = NamesFirst n t a ⊎ (IsNetwork n t × Later a)
 
-unfoldable pub Places : ℕ → (ℕ → Type 0) → ℕ → Answers → Answers
-Places c Bad k Later a =
+unfoldable pub PlaceByPlace : ℕ → (ℕ → Type 0) → ℕ → Answers → Answers
+PlaceByPlace c Bad k Later a =
     ((p : ℕ) × (p < k) × Bad p × ((i : ℕ) → i < p → Bad i → ⊥) × (a ≡ answer c 0 p))
     ⊎ (((i : ℕ) → i < k → Bad i → ⊥) × Later a)
 

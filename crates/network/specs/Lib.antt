@@ -1,4 +1,4 @@
--- What a bond table is, and what a validator says of one. Read Network first.
+-- What a bond table is, what a validator says of one, and the chain of checks that every call's answers are composed of (Chain). Read Network first.
 pub mod Maxima
 pub mod Network
 pub mod Verdict

@@ -5,9 +5,8 @@ use Prim.Native.Nat.{ℕ, suc}
 use lib.ListN.{length, length-map}
 use Rattle.graph.specs.Writing.{Reading, OneWriting}
 use Rattle.graph.specs.Listing.{RingListing}
-use Rattle.graph.specs.Carried.{KeptBy, CarriedTo}
+use Rattle.graph.specs.Carried.{Renaming, KeptBy, CarriedTo}
 use Rattle.graph.proofs.Writings.{one-each}
-use Rattle.graph.proofs.Renamings.{Renaming}
 use Rattle.graph.proofs.Carried.{carried-to}
 use Rattle.graph.proofs.Listings.{ring-order-strict}
 use Rattle.graph.proofs.Readings.{reading-map}

@@ -6,7 +6,7 @@ use native.Mathlib.Omega.{arith}
 use native.Mathlib.Decide.{ℕ-discrete}
 use lib.ListN.{length, length-map}
 use borrow.Author.Tests.{eq-eqb, ne-eqb}
-use Rattle.graph.specs.Lists.{count}
+use Rattle.graph.specs.Lists.{numbersFrom}
 use Rattle.graph.proofs.Lists.{getD-map, length-count, getD-count}
 use Rattle.network.specs.declared.Answer.{Answer}
 use Rattle.network.specs.Maxima.{places}
@@ -31,10 +31,10 @@ module _ (n : ℕ) (names : List ℕ) (O : OneToOne n names) where
   pub inverse-exists : Inverse n names (homeNames n names)
   unfolding homeNames
   inverse-exists = record {
-    long = length-map (count n 0) (λ w. atomOf names w n) ∙ length-count n 0;
+    long = length-map (numbersFrom n 0) (λ w. atomOf names w n) ∙ length-count n 0;
     undone = λ x l.
         let r = atom-of names (name names x) n x l refl in
-        getD-map (λ w. atomOf names w n) (count n 0) (name names x) 0 0 (omega (arith, length-count n 0, O .below x l))
+        getD-map (λ w. atomOf names w n) (numbersFrom n 0) (name names x) 0 0 (omega (arith, length-count n 0, O .below x l))
         ∙ ap (λ (w : ℕ). atomOf names w n) (getD-count n 0 (name names x) 0 (O .below x l) ∙ omega arith)
         ∙ same-name n names O (atomOf names (name names x) n) x (r .0) l (r .1);
   }

@@ -10,7 +10,7 @@ use lib.ListN.{length}
 use borrow.Author.Tests.{eq-eqb, ne-eqb, le-leb, lt-leb}
 use Rattle.network.specs.declared.Answer.{Answer}
 use Rattle.network.specs.Verdict.{answer, accepted}
-use Rattle.network.specs.Chain.{Places, Accepted}
+use Rattle.network.specs.Chain.{PlaceByPlace, Accepted}
 use Rattle.network.proofs.Chains.{one-accepted, one-places, places-at, places-right, places-passed}
 use Rattle.renumber.specs.Names.{name, OneToOne, BadName, nameSeen, badName, nameFaults}
 
@@ -93,12 +93,12 @@ scan n names (suc k) i = go (badName n names i) refl (nameFaults n names k (i + 
 
 module _ (n : ℕ) (names : List ℕ) (long : length names ≡ n) where
   -- 18 at the first place that is bad
-  pub names-say : Places 18 (BadName n names) n Accepted (nameFaults n names (length names) 0 accepted)
+  pub names-say : PlaceByPlace 18 (BadName n names) n Accepted (nameFaults n names (length names) 0 accepted)
   names-say = go (scan n names (length names) 0)
     where
-      go : {a : Answer} → Found n names (length names) 0 a ⊎ None n names (length names) 0 a → Places 18 (BadName n names) n Accepted a
+      go : {a : Answer} → Found n names (length names) 0 a ⊎ None n names (length names) 0 a → PlaceByPlace 18 (BadName n names) n Accepted a
       go (inl r) =
-          subst (Places 18 (BadName n names) n Accepted) (sym (r .is))
+          subst (PlaceByPlace 18 (BadName n names) n Accepted) (sym (r .is))
           (places-at 18 (BadName n names) n Accepted (r .at) (omega (arith, r .high)) (r .bad) (λ i l. r .none i (omega arith) l))
       go (inr r) = places-right 18 (BadName n names) n Accepted _ (λ i l. r .none i (omega arith) (omega arith)) (r .is)
 

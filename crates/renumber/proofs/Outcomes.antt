@@ -11,7 +11,7 @@ use Rattle.network.specs.declared.Answer.{Answer}
 use Rattle.network.specs.Maxima.{places}
 use Rattle.network.specs.Network.{IsNetwork}
 use Rattle.network.specs.Verdict.{accepted, refusal, notLong, sizes, faults, verdict}
-use Rattle.network.specs.Chain.{Check, Sizes, Table, Places, Accepted}
+use Rattle.network.specs.Chain.{Check, Sizes, Table, PlaceByPlace, Accepted}
 use Rattle.network.proofs.Verdicts.{not-long, long, sized}
 use Rattle.network.proofs.Chains.{check-says, check-passed, sizes-say, sizes-passed, table-says, table-passed}
 use Rattle.network.proofs.Networks.{network-of, verdict-kept, verdict-passed, right-atoms, right-table, wrong-sizes}
@@ -53,7 +53,7 @@ module _ (n : ℕ) (t names before : List ℕ) where
       go (no v) _ = rw (not-long names n v) refl
 
   -- all that an answer can be
-  pub renumber-says : Sizes n t (λ Later. Later) (Check 6 ((length names ≡ n) × (length before ≡ places * n)) (Table n t (Places 18 (BadName n names) n Accepted))) (renumberVerdict n t names before)
+  pub renumber-says : Sizes n t (λ Later. Later) (Check 6 ((length names ≡ n) × (length before ≡ places * n)) (Table n t (PlaceByPlace 18 (BadName n names) n Accepted))) (renumberVerdict n t names before)
   unfolding renumberVerdict
   renumber-says =
       sizes-say n t _ _ λ C w. check-says 6 (notLong names n || notLong before (places * n)) _ Lengths _ lengths lengths-right lengths-wrong λ h.

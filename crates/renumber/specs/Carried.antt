@@ -11,7 +11,7 @@ use mathlib.Core.List.{List, map}
 use Prim.Native.Nat.{ℕ, zero, suc, _<_}
 use lib.Dec.{eqb}
 use lib.ListN.{length}
-use Rattle.graph.specs.Lists.{count}
+use Rattle.graph.specs.Lists.{numbersFrom}
 use Rattle.graph.specs.Writing.{Reading, OneWriting}
 use Rattle.graph.specs.Counts.{ofLength, lengthsOf, wordsOf}
 use Rattle.graph.specs.Carried.{CarriedTo}
@@ -34,4 +34,4 @@ atomOf names w zero = 0
 atomOf names w (suc k) = cond (eqb (name names k) w) k (atomOf names w k)
 
 unfoldable pub homeNames : ℕ → List ℕ → List ℕ
-homeNames n names = map (λ w. atomOf names w n) (count n 0)
+homeNames n names = map (λ w. atomOf names w n) (numbersFrom n 0)

@@ -2,7 +2,7 @@
 --
 --   name names x                  the new number of atom x
 --   OneToOne n names              a renumbering of n atoms: n names, each below n, no two equal
---   BadName n names i         18 at place i: its name is not below n, or was seen earlier
+--   BadName n names i             18 at place i: its name is not below n, or was seen earlier
 --   nameSeen names w k j          whether w is among the k names from place j on
 --   badName n names i             the same as BadName, computed
 --   nameFaults n names k i later  18 at the first bad name among the k from place i on, else what comes later

@@ -3,7 +3,7 @@
 --   Offered names low w least r   r is the lesser of `least` and the name of w, where w is an atom whose name is at least low
 --   Least t names x low p r       r is the least name that is at least low, among the atoms at the first p places of row x; free if there is none
 --   above row p                   what the word at place p must at least be: more than the word before
---   RowBegun t names x row k        the first k places of atom x's new row, whose word at place p is `row p`
+--   RowBegun t names x row k      the first k places of atom x's new row, whose word at place p is `row p`
 use mathlib.Core.Path.{_≡_}
 use mathlib.Core.Logic.{_⊎_}
 use mathlib.Core.List.{List}

@@ -24,7 +24,7 @@ use Rattle.network.proofs.Bonds.{bonded-from}
 use Rattle.ring.specs.Maxima.{ringLeast, ringMost}
 use Rattle.ring.specs.Firsts.{firstOf}
 use Rattle.ring.specs.Writes.{notRing, lengthOf}
-use Rattle.ring.specs.CandidateVerdict.{outside, firstWith, seenBefore, placeOf, notBonded, firstPlace, ringVerdict, candidateVerdict, AtomsBelow}
+use Rattle.ring.specs.CandidateVerdict.{notAtom, firstWith, seenBefore, placeOf, notBonded, firstPlace, ringVerdict, candidateVerdict, AtomsBelow}
 use Rattle.ring.specs.RightCandidate.{RightCandidate}
 use Rattle.ring.proofs.Firsts.{first-of}
 use Rattle.ring.proofs.Readers.{long-enough, no-length, some-length, right-length}
@@ -49,14 +49,14 @@ module _ (n : ℕ) (t r : List ℕ) (a : Answer) (m : ℕ) (e : m ≡ lengthOf (
     size : notRing (length r) ≡ false
     size = some-length (length r) m e z
 
-    module _ (x : ℕ) (ex : x ≡ firstOf (outside n r) (length r) 0) where
+    module _ (x : ℕ) (ex : x ≡ firstOf (notAtom n r) (length r) 0) where
       pub says-15 : x < length r → a ≡ answer 15 0 x → a ≡ ringVerdict n t r
       unfolding ringVerdict
-      says-15 l h = h ∙ sym (rw size (place-found 15 (length r) (outside n r) _ x ex l))
+      says-15 l h = h ∙ sym (rw size (place-found 15 (length r) (notAtom n r) _ x ex l))
 
       module _ (lx : length r ≤ x) (y : ℕ) (ey : y ≡ firstOf (seenBefore r) (length r) 0) where
-        clean-15 : (later : Answer) → firstPlace 15 (outside n r) (length r) later ≡ later
-        clean-15 later = place-clean 15 (length r) (outside n r) later x ex lx
+        clean-15 : (later : Answer) → firstPlace 15 (notAtom n r) (length r) later ≡ later
+        clean-15 later = place-clean 15 (length r) (notAtom n r) later x ex lx
 
         pub says-16 : y < length r → a ≡ answer 16 0 y → a ≡ ringVerdict n t r
         unfolding ringVerdict
@@ -109,9 +109,9 @@ module _ (bad : ℕ → Bool) (k : ℕ) where
         | no l ↦ absurd (subst T (sym (F .here (omega arith)) ∙ f (firstOf bad k 0) (omega arith)) tt)
       ]
 
-pub atoms-below : (n : ℕ) (r : List ℕ) (x : ℕ) → x ≡ firstOf (outside n r) (length r) 0 → length r ≤ x → AtomsBelow n r
+pub atoms-below : (n : ℕ) (r : List ℕ) (x : ℕ) → x ≡ firstOf (notAtom n r) (length r) 0 → length r ≤ x → AtomsBelow n r
 unfolding AtomsBelow
-atoms-below n r x e l i m = leb-false n (getD r i 0) (none-bad (outside n r) (length r) x e l i m)
+atoms-below n r x e l i m = leb-false n (getD r i 0) (none-bad (notAtom n r) (length r) x e l i m)
 
 -- the row of each atom stands in the table
 pub row-inside : (n : ℕ) (t r : List ℕ) (i : ℕ) → length t ≡ places * n → AtomsBelow n r → i < length r → getD r i 0 * places + places ≤ length t
@@ -164,7 +164,7 @@ module _ (n : ℕ) (t : List ℕ) (N : IsNetwork n t) (r : List ℕ) where
   -- what the four checks say together
   record Sound : Type 0 where
     size : notRing (length r) ≡ false
-    inside : (i : ℕ) → i < length r → outside n r i ≡ false
+    inside : (i : ℕ) → i < length r → notAtom n r i ≡ false
     once : (i : ℕ) → i < length r → seenBefore r i ≡ false
     joined : (i : ℕ) → i < length r → notBonded t r i ≡ false
 
@@ -208,7 +208,7 @@ module _ (n : ℕ) (t : List ℕ) (N : IsNetwork n t) (r : List ℕ) where
   unfolding ringVerdict
   sound-says S =
       rw (S .size)
-      (place-clean 15 (length r) (outside n r) _ _ refl (all-good (outside n r) (length r) (S .inside))
+      (place-clean 15 (length r) (notAtom n r) _ _ refl (all-good (notAtom n r) (length r) (S .inside))
       ∙ place-clean 16 (length r) (seenBefore r) _ _ refl (all-good (seenBefore r) (length r) (S .once))
       ∙ place-clean 17 (length r) (notBonded t r) _ _ refl (all-good (notBonded t r) (length r) (S .joined)))
 
@@ -223,7 +223,7 @@ module _ (n : ℕ) (t : List ℕ) (N : IsNetwork n t) (r : List ℕ) where
   unfolding ringVerdict
   sound-of z =
       let a = not-refused 14 _ _ (omega arith) z in
-      let b = places-passed 15 (length r) (outside n r) _ (omega arith) (a .1) in
+      let b = places-passed 15 (length r) (notAtom n r) _ (omega arith) (a .1) in
       let c = places-passed 16 (length r) (seenBefore r) _ (omega arith) (b .1) in
       let d = places-passed 17 (length r) (notBonded t r) _ (omega arith) (c .1) in
       record { size = a .0; inside = b .0; once = c .0; joined = d .0 }

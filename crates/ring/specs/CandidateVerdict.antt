@@ -1,6 +1,6 @@
 -- What is said of a candidate before it is tested: the first fault, in the order of the numbered refusals (document 01).
 --
---   outside n r i                  15: the atom at place i is not below n
+--   notAtom n r i                  15: the atom at place i is not below n
 --   firstWith r j                  the first place that has the atom of place j, at most j
 --   seenBefore r j                 16: the atom at place j stands earlier too
 --   placeOf t x y                  the first place of row x that holds y, or 8
@@ -21,8 +21,8 @@ use Rattle.network.specs.Verdict.{answer, accepted, check, notLong, sizes, faul
 use Rattle.ring.specs.Firsts.{firstOf}
 use Rattle.ring.specs.Writes.{notRing}
 
-abbrev pub outside : ℕ → List ℕ → ℕ → Bool
-outside n r i = leb n (getD r i 0)
+abbrev pub notAtom : ℕ → List ℕ → ℕ → Bool
+notAtom n r i = leb n (getD r i 0)
 
 abbrev pub firstWith : List ℕ → ℕ → ℕ
 firstWith r j = firstOf (λ i. eqb (getD r i 0) (getD r j 0)) j 0
@@ -42,7 +42,7 @@ firstPlace code bad k later = cond (ltb (firstOf bad k 0) k) (answer code 0 (fir
 unfoldable pub ringVerdict : ℕ → List ℕ → List ℕ → Answer
 ringVerdict n t r =
     check 14 (notRing (length r))
-    (firstPlace 15 (outside n r) (length r)
+    (firstPlace 15 (notAtom n r) (length r)
     (firstPlace 16 (seenBefore r) (length r)
     (firstPlace 17 (notBonded t r) (length r)
     accepted)))

@@ -8,14 +8,14 @@
 --   readFrom r start onwards    r read from a place on, round the ring, onwards or backwards
 --   lengthFrom k start          the length of such a reading of a ring of k, or 0 where there is no such ring or place
 --   atomsFrom r start onwards   the words of such a reading, or zeros where there is no such ring or place
---   WritingPadded r words              the words are the one writing of r, filled up with zeros
+--   WritingPadded r words       the words are the one writing of r, filled up with zeros
 use mathlib.Core.Path.{_≡_}
 use mathlib.Core.Bool.{Bool, true, false, cond, not, _&&_, _||_}
 use mathlib.Core.List.{List, _++_, map}
 use Prim.Native.Nat.{ℕ, _+_, _-_, _%_}
 use lib.Dec.{leb}
 use lib.ListN.{length, getD, replicate}
-use Rattle.graph.specs.Lists.{count}
+use Rattle.graph.specs.Lists.{numbersFrom}
 use Rattle.graph.specs.Writing.{Reading, OneWriting}
 use Rattle.ring.specs.Maxima.{ringLeast, ringMost}
 
@@ -36,7 +36,7 @@ placeAt k start true i = (start + i) % k
 placeAt k start false i = (start + (k - i)) % k
 
 abbrev pub readFrom : List ℕ → ℕ → Bool → List ℕ
-readFrom r start onwards = map (λ i. getD r (placeAt (length r) start onwards i) 0) (count (length r) 0)
+readFrom r start onwards = map (λ i. getD r (placeAt (length r) start onwards i) 0) (numbersFrom (length r) 0)
 
 unfoldable pub lengthFrom : ℕ → ℕ → ℕ
 lengthFrom k start = cond (notRing k || leb k start) 0 k

@@ -9,7 +9,7 @@ ghost use Rattle.network.specs.Maxima.{atomsMost, places};
 ghost use Rattle.network.specs.Network.{IsNetwork};
 ghost use Rattle.network.specs.Verdict.{answer};
 ghost use Rattle.ring.specs.Firsts.{firstOf};
-ghost use Rattle.ring.specs.CandidateVerdict.{outside, firstWith, seenBefore, placeOf, notBonded, ringVerdict, candidateVerdict, AtomsBelow};
+ghost use Rattle.ring.specs.CandidateVerdict.{notAtom, firstWith, seenBefore, placeOf, notBonded, ringVerdict, candidateVerdict, AtomsBelow};
 
 // The first of refusals 1, 4, 5, 7 to 11, and 14 to 17.
 pub fn faults_of(n: usize, table: &[u16], ring: &[u16], dist: &[u8]) -> Answer
@@ -38,9 +38,9 @@ fn ring_faults(n: usize, table: &[u16], ring: &[u16]) -> Answer
     if given.len == 0 {
         return Answer::refused(14);
     }
-    let outside = first_outside(n, ring);
-    if outside < ring.len() {
-        return at_place(15, outside);
+    let notAtom = first_outside(n, ring);
+    if notAtom < ring.len() {
+        return at_place(15, notAtom);
     }
     let repeated = first_repeated(ring);
     if repeated < ring.len() {
@@ -66,7 +66,7 @@ fn at_place(code: u8, place: usize) -> Answer
 
 // The first place whose atom is not below n, or the length.
 fn first_outside(n: usize, ring: &[u16]) -> usize
-    ensures { λ r. ⌜ r ≡ firstOf (outside n (now (ring .entry))) (length (now (ring .entry))) 0 ⌝ }
+    ensures { λ r. ⌜ r ≡ firstOf (notAtom n (now (ring .entry))) (length (now (ring .entry))) 0 ⌝ }
 {
     let mut i = 0;
     while i < ring.len() {

@@ -15,9 +15,9 @@ use Rattle.graph.specs.Graph.{around}
 use Rattle.distance.specs.Distances.{distance}
 use Rattle.ring.specs.Maxima.{ringMost}
 use Rattle.search.specs.State.{PathIn}
-use Rattle.search.specs.Search.{Test, allBelow, pairFits, fitsBefore, follows}
-use Rattle.search.specs.Turn.{reaches, seen, lookAhead, stood, Hint, Looks, NextAt}
-use Rattle.search.proofs.Below.{any-found, any-none}
+use Rattle.paths.specs.Search.{Test, allBelow, pairFits, fitsBefore, follows}
+use Rattle.paths.specs.Turn.{reaches, seen, lookAhead, stood, Hint, Looks, NextAt}
+use Rattle.paths.proofs.Below.{any-found, any-none}
 use Rattle.search.proofs.Paths.{grown-path}
 use Rattle.search.proofs.Turns.{look-past, look-is}
 

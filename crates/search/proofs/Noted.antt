@@ -13,7 +13,7 @@ use borrow.Author.Tests.{ltb-true, ltb-false}
 use Rattle.ring.specs.Maxima.{ringLeast, ringMost}
 use Rattle.census.specs.Census.{encodeBy, plain}
 use Rattle.search.specs.State.{State, state, note, wrote, noteAll, none}
-use Rattle.search.specs.Search.{Tests, ringsOf, countsUpTo, lengthsUpTo}
+use Rattle.paths.specs.Search.{Tests, ringsOf, countsUpTo, lengthsUpTo}
 use Rattle.search.specs.declared.note.Found.{Found}
 use Rattle.search.proofs.Notes.{note-fits}
 

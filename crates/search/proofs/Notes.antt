@@ -8,7 +8,7 @@ use native.Mathlib.Omega.{arith}
 use lib.ListN.{length, take}
 use lib.Seq.{paste, sets, sets-eq, length-take-le}
 use borrow.Author.Tests.{lt-ltb, le-ltb}
-use Rattle.search.specs.Search.{gatherBelow, isRing, ended}
+use Rattle.paths.specs.Search.{gatherBelow, isRing, ended}
 use Rattle.census.specs.Census.{plain}
 use Rattle.search.specs.State.{State, state, note, wrote, noteAll}
 use Rattle.search.specs.declared.note.Found.{Found}

@@ -19,12 +19,12 @@ use Rattle.census.specs.declared.Census.{Census}
 use Rattle.search.specs.declared.grow.Tally.{Tally}
 use Rattle.census.specs.Census.{plain, encode, limitOf, beforeSearch, afterCount, afterList, countsOf, censusWith, censusOf, noCensus, settled, Searched, CensusOutcome, CountOutcome, ListOutcome}
 use Rattle.census.specs.Prepared.{Prepared, Passed}
-use Rattle.search.specs.Search.{ringsUpTo}
-use Rattle.search.specs.Turn.{mayFollow}
+use Rattle.paths.specs.Search.{ringsUpTo}
+use Rattle.paths.specs.Turn.{mayFollow}
 use Rattle.search.specs.State.{Net, Tallied}
 use Rattle.census.proofs.Passed.{reached-exactly}
-use Rattle.search.proofs.Listed.{right-as-far, the-listing}
-use Rattle.search.proofs.Counts.{counts-all, lengths-all}
+use Rattle.paths.proofs.Listed.{right-as-far, the-listing}
+use Rattle.paths.proofs.Counts.{counts-all, lengths-all}
 use Rattle.search.proofs.Noted.{too-many, not-many, total, needed, holds}
 use Rattle.census.proofs.Settled.{code, unrefused, reached, told-count}
 

@@ -12,7 +12,7 @@ use lib.Seq.{length-take-le, take-suc-set, getD-set-same, getD-set-other, getD-t
 use Rattle.graph.specs.Graph.{around}
 use Rattle.distance.specs.Distances.{distance}
 use Rattle.ring.specs.Maxima.{ringMost, ringLeast}
-use Rattle.search.specs.Search.{pairFits}
+use Rattle.paths.specs.Search.{pairFits}
 use Rattle.search.specs.State.{PathIn, Given, Grows}
 
 -- a place of a table of n rows of m

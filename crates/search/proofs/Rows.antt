@@ -12,11 +12,11 @@ use lib.ListN.{length, take, getD}
 use borrow.Author.Tests.{lt-ltb, le-ltb}
 use Rattle.network.specs.Network.{word, IsNetwork}
 use Rattle.network.specs.Maxima.{places, free}
-use Rattle.search.specs.Search.{Test, gatherBelow, nextWord, goesOn, follows, ended, extend, branch}
-use Rattle.search.specs.Shortest.{Ends}
+use Rattle.paths.specs.Search.{Test, gatherBelow, nextWord, goesOn, follows, ended, extend, branch}
+use Rattle.paths.specs.Shown.{Ends}
 use Rattle.census.specs.Census.{plain}
 use Rattle.search.specs.State.{PathIn, State, noteAll}
-use Rattle.search.proofs.Below.{gather-rest}
+use Rattle.paths.proofs.Below.{gather-rest}
 use Rattle.search.proofs.Paths.{path-long}
 use Rattle.search.proofs.Notes.{all-append}
 

@@ -6,8 +6,8 @@ use Prim.Native.Nat.{ℕ, _+_, _-_, _/_, _<_, _≤_}
 use lib.ListN.{length, getD}
 use lib.Dec.{ltb}
 use borrow.Author.Tests.{lt-ltb, le-ltb, eq-eqb, ne-eqb}
-use Rattle.search.specs.Search.{follows, pairFits}
-use Rattle.search.specs.Turn.{anyBelow, antipodes, lastAbove, seen, lookAhead, mayFollow}
+use Rattle.paths.specs.Search.{follows, pairFits}
+use Rattle.paths.specs.Turn.{anyBelow, antipodes, lastAbove, seen, lookAhead, mayFollow}
 
 module _ (n : ℕ) (dist : List ℕ) (k : ℕ) (path : List ℕ) (len a : ℕ) (q : length path ≡ len) where
   pub look-past : k / 2 < len → true ≡ lookAhead n dist k path a

@@ -4,7 +4,7 @@
 --   State                what the search has found, and the words of the list
 --   state found words    the state with these
 --   wrote size told ring s    a ring is counted, with the words that it takes, and written where it fits
---   note size told a ring s   a ring is noted, unless the allowance a is used up
+--   note size told a ring s    a ring is noted, unless the allowance a is used up
 --   noteAll size told a rings s    one after another
 --   none                 nothing found yet
 --   Fits f               the words taken are at most a longest ring's for each ring
@@ -26,8 +26,8 @@ use lib.Dec.{ltb}
 use Rattle.census.specs.Census.{plain}
 use Rattle.network.specs.Network.{IsNetwork}
 use Rattle.ring.specs.Maxima.{ringLeast, ringMost}
-use Rattle.search.specs.Search.{ringsUpTo, countsUpTo, lengthsUpTo}
-use Rattle.search.specs.Turn.{mayFollow}
+use Rattle.paths.specs.Search.{ringsUpTo, countsUpTo, lengthsUpTo}
+use Rattle.paths.specs.Turn.{mayFollow}
 use Rattle.search.specs.declared.note.Found.{Found}
 use Rattle.search.specs.declared.grow.Tally.{Tally}
 
@@ -38,20 +38,20 @@ pub record State : Type 0 where
 abbrev pub state : Found → List ℕ → State
 state f l = record { found = f; words = l }
 
-module _ {Ring : Type 0} (size : Ring → ℕ) (told : Ring → List ℕ) where
-  unfoldable pub wrote : Ring → State → State
+module _ {AnyRing : Type 0} (size : AnyRing → ℕ) (told : AnyRing → List ℕ) where
+  unfoldable pub wrote : AnyRing → State → State
   wrote ring s =
       state (record { rings = s .found .rings + 1; at = s .found .at + (length (told ring) + 1); over = false })
       (cond (ltb (s .found .at + length (told ring)) (length (s .words))) (sets (s .words) (s .found .at) (size ring ∷ told ring)) (s .words))
 
-  unfoldable pub note : ℕ → Ring → State → State
+  unfoldable pub note : ℕ → AnyRing → State → State
   note allowance ring s =
       cond (s .found .over) s
       (cond (ltb (s .found .rings) allowance)
       (wrote ring s)
       (state (record { rings = s .found .rings; at = s .found .at; over = true }) (s .words)))
 
-  unfoldable pub noteAll : ℕ → List Ring → State → State
+  unfoldable pub noteAll : ℕ → List AnyRing → State → State
   noteAll allowance [] s = s
   noteAll allowance (r ∷ rs) s = noteAll allowance rs (note allowance r s)
 

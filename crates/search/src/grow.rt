@@ -11,8 +11,8 @@ ghost use lib.ListN.{length, take};
 ghost use Rattle.network.specs.Maxima.{atomsMost, places};
 ghost use Rattle.network.specs.Network.{word};
 ghost use Rattle.ring.specs.Maxima.{ringLeast};
-ghost use Rattle.search.specs.Search.{extend, ringsOf};
-ghost use Rattle.search.specs.Turn.{mayFollow, Hint};
+ghost use Rattle.paths.specs.Search.{extend, ringsOf};
+ghost use Rattle.paths.specs.Turn.{mayFollow, Hint};
 ghost use Rattle.search.specs.State.{Net, Grows, Fits, Notes, Grew, Tallied};
 
 // What is found, with a count for each length, and the lengths of the rings added up.

@@ -7,7 +7,7 @@ ghost use Prim.Native.Nat.{_+_, _<_, _≤_};
 ghost use lib.ListN.{length, take};
 ghost use lib.Seq.{sets};
 ghost use Rattle.ring.specs.Maxima.{ringLeast, ringMost};
-ghost use Rattle.search.specs.Search.{ended};
+ghost use Rattle.paths.specs.Search.{ended};
 ghost use Rattle.search.specs.State.{Given, Fits, Notes};
 
 // The rings found, the words that they take, and whether there were more than the allowance.

@@ -5,7 +5,7 @@ ghost use Prim.Native.Nat.{_+_, _-_, _*_, _<_, _≤_};
 ghost use lib.ListN.{length, getD, take};
 ghost use Rattle.distance.specs.Distances.{distance};
 ghost use Rattle.ring.specs.Maxima.{ringLeast};
-ghost use Rattle.search.specs.Search.{pairFits, fitsBefore, everyPair, isRing};
+ghost use Rattle.paths.specs.Search.{pairFits, fitsBefore, everyPair, isRing};
 ghost use Rattle.search.specs.State.{PathIn, Given};
 
 // Whether a whole path is the one writing of a shortest-path ring: every pair is tested.
@@ -103,6 +103,7 @@ pub fn far(n: usize, dist: &[u8], a: usize, b: usize) -> usize
     dist[i] as usize
 }
 
+// The word of a list as a number.
 pub fn wide(x: u16) -> usize
     ensures { λ r. ⌜ r ≡ x ⌝ }
 {

@@ -7,8 +7,8 @@ ghost use Prim.Native.Nat.{_+_, _-_, _*_, _/_, _<_, _≤_};
 ghost use lib.ListN.{length, take};
 ghost use Rattle.network.specs.Maxima.{atomsMost};
 ghost use Rattle.ring.specs.Maxima.{ringLeast};
-ghost use Rattle.search.specs.Search.{follows};
-ghost use Rattle.search.specs.Turn.{antipodes, lastAbove, lookAhead, mayFollow, Hint, Looks, NextAt};
+ghost use Rattle.paths.specs.Search.{follows};
+ghost use Rattle.paths.specs.Turn.{antipodes, lastAbove, lookAhead, mayFollow, Hint, Looks, NextAt};
 ghost use Rattle.search.specs.State.{PathIn, Given};
 
 // Whether a may follow on a path: 0 if not, or where the next look ahead is to start.

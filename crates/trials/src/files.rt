@@ -1,4 +1,4 @@
-// The network file: Fig. 1 there and back, the greatest file, and refusals 19 to 28 from both sides.
+// The network file: Fig. 1 written and read again, the greatest file, and refusals 19 to 28 from both sides.
 use crate::models;
 use crate::say;
 use bnw::FileRead;

@@ -3,14 +3,14 @@ use Prim.Native.Nat.{_≤_, _-_}
 use mathlib.Core.Path.{_≡_, refl}
 use native.Mathlib.Omega.{arith}
 use lib.ListN.{length}
-use Rattle.graph.specs.Lists.{gather, count}
+use Rattle.graph.specs.Lists.{gather, numbersFrom}
 use Rattle.bnw.specs.File.{bondAt}
 use Rattle.bnw.proofs.TableBonds.{counted-more, counted-done}
 use Rattle.bnw_writer.proofs.bytes.count_bonds.Statement.{statement}
 use Rattle.bnw_writer.proofs.bytes.count_bonds.Tie as tie
 
 abbrev Inv-loop : tie.InvT-loop
-Inv-loop table bonds₀ i₀ bonds i = (i ≤ length table) × (bonds ≡ length (gather (bondAt table) (count i 0))) × (bonds ≤ i)
+Inv-loop table bonds₀ i₀ bonds i = (i ≤ length table) × (bonds ≡ length (gather (bondAt table) (numbersFrom i 0))) × (bonds ≤ i)
 
 abbrev μ-loop : tie.MeasureT-loop
 μ-loop table bonds₀ i₀ bonds i = length table - i

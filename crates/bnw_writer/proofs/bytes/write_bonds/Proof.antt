@@ -5,13 +5,13 @@ use mathlib.Core.Path.{_≡_, refl}
 use native.Mathlib.Omega.{arith}
 use lib.ListN.{length}
 use lib.Seq.{sets}
-use Rattle.graph.specs.Lists.{gather, count}
+use Rattle.graph.specs.Lists.{gather, numbersFrom}
 use Rattle.bnw.specs.File.{bondAt, bondBytes, headLength, bondLength}
 use Rattle.bnw_writer.proofs.bytes.write_bonds.Statement.{statement}
 use Rattle.bnw_writer.proofs.bytes.write_bonds.Tie as tie
 
 abbrev Inv-loop : tie.InvT-loop
-Inv-loop table file₀ at₀ i₀ file at i = (i ≤ length table) × (length file ≡ length file₀) × (at ≡ headLength + bondLength * length (gather (bondAt table) (count i 0))) × (file ≡ sets file₀ headLength (gather bondBytes (gather (bondAt table) (count i 0))))
+Inv-loop table file₀ at₀ i₀ file at i = (i ≤ length table) × (length file ≡ length file₀) × (at ≡ headLength + bondLength * length (gather (bondAt table) (numbersFrom i 0))) × (file ≡ sets file₀ headLength (gather bondBytes (gather (bondAt table) (numbersFrom i 0))))
 
 abbrev μ-loop : tie.MeasureT-loop
 μ-loop table file₀ at₀ i₀ file at i = length table - i

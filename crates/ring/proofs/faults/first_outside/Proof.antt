@@ -5,13 +5,13 @@ use borrow.Author.Needs.{needs}
 use borrow.Author.Tests.{le-leb, lt-leb}
 use lib.ListN.{length}
 use Rattle.ring.specs.Firsts.{firstOf}
-use Rattle.ring.specs.CandidateVerdict.{outside}
+use Rattle.ring.specs.CandidateVerdict.{notAtom}
 use Rattle.ring.proofs.Firsts.{first-start, first-here, first-next, first-never}
 use Rattle.ring.proofs.faults.first_outside.Statement.{statement}
 use Rattle.ring.proofs.faults.first_outside.Tie as tie
 
 abbrev Inv-loop : tie.InvT-loop
-Inv-loop n ring i₀ i = (i ≤ length ring) × (firstOf (outside n ring) (length ring) 0 ≡ firstOf (outside n ring) (length ring - i) i)
+Inv-loop n ring i₀ i = (i ≤ length ring) × (firstOf (notAtom n ring) (length ring) 0 ≡ firstOf (notAtom n ring) (length ring - i) i)
 
 abbrev μ-loop : tie.MeasureT-loop
 μ-loop n ring i₀ i = length ring - i

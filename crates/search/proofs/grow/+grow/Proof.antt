@@ -10,8 +10,8 @@ use borrow.Fn.PlainCycle.{Measures, is, falls, and}
 use Rattle.network.specs.Maxima.{places}
 use Rattle.census.specs.Census.{plain}
 use Rattle.search.specs.State.{state, noteAll, Fits}
-use Rattle.search.specs.Turn.{mayFollow}
-use Rattle.search.specs.Search.{gatherBelow, branch}
+use Rattle.paths.specs.Turn.{mayFollow}
+use Rattle.paths.specs.Search.{gatherBelow, branch}
 use Rattle.search.proofs.Ahead.{hint-kept, hint-grown, looks-kept}
 use Rattle.search.proofs.Paths.{given-of, given-whole, given-kept, grows-kept, grows-on, grown-kept, grown-path}
 use Rattle.search.proofs.Rows.{turn-no, turn-yes, extend-some, whole-result, in-row, ends-of, row-done, goes-is}

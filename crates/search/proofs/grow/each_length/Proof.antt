@@ -6,8 +6,8 @@ use native.Mathlib.Omega.{arith}
 use borrow.Author.Needs.{needs}
 use lib.ListN.{length}
 use Rattle.ring.specs.Maxima.{ringMost}
-use Rattle.search.specs.Search.{gatherBelow, ringsUpTo, countsUpTo, lengthsUpTo}
-use Rattle.search.specs.Turn.{mayFollow}
+use Rattle.paths.specs.Search.{gatherBelow, ringsUpTo, countsUpTo, lengthsUpTo}
+use Rattle.paths.specs.Turn.{mayFollow}
 use Rattle.census.specs.Census.{plain}
 use Rattle.search.specs.State.{state, noteAll, none, Fits}
 use Rattle.search.proofs.Notes.{turn, turned}

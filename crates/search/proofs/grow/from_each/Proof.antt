@@ -6,8 +6,8 @@ use borrow.Author.Needs.{needs}
 use Rattle.ring.specs.Maxima.{ringMost}
 use Rattle.census.specs.Census.{plain}
 use Rattle.search.specs.State.{state, noteAll, Fits}
-use Rattle.search.specs.Turn.{mayFollow}
-use Rattle.search.specs.Search.{gatherBelow, ringsFrom, ringsOf}
+use Rattle.paths.specs.Turn.{mayFollow}
+use Rattle.paths.specs.Search.{gatherBelow, ringsFrom, ringsOf}
 use Rattle.search.proofs.Ahead.{hint-kept, hint-first}
 use Rattle.search.proofs.Paths.{first-take, first-path}
 use Rattle.search.proofs.Notes.{turn, turned}

@@ -4,8 +4,8 @@ use Prim.Native.Nat.{_≤_, _-_}
 use native.Mathlib.Omega.{arith}
 use lib.ListN.{take, getD}
 use borrow.Author.Tests.{not-true, not-false}
-use Rattle.search.specs.Search.{fitsBefore, everyPair, allBelow}
-use Rattle.search.proofs.Below.{all-more, all-fails, all-done}
+use Rattle.paths.specs.Search.{fitsBefore, everyPair, allBelow}
+use Rattle.paths.proofs.Below.{all-more, all-fails, all-done}
 use Rattle.search.proofs.pairs.every_pair.Statement.{statement}
 use Rattle.search.proofs.pairs.every_pair.Tie as tie
 

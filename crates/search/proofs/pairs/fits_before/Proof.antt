@@ -5,8 +5,8 @@ use native.Mathlib.Omega.{arith}
 use lib.ListN.{take}
 use borrow.Author.Tests.{not-true, not-false}
 use borrow.Author.Needs.{needs}
-use Rattle.search.specs.Search.{pairFits, fitsBefore, allBelow}
-use Rattle.search.proofs.Below.{all-more, all-fails, all-done}
+use Rattle.paths.specs.Search.{pairFits, fitsBefore, allBelow}
+use Rattle.paths.proofs.Below.{all-more, all-fails, all-done}
 use Rattle.search.proofs.pairs.fits_before.Statement.{statement}
 use Rattle.search.proofs.pairs.fits_before.Tie as tie
 

@@ -1,6 +1,6 @@
 use borrow.Author.Tests.{lt-ltb, le-ltb}
 use borrow.Author.Needs.{needs}
-use Rattle.search.specs.Search.{isRing}
+use Rattle.paths.specs.Search.{isRing}
 use Rattle.search.proofs.pairs.is_ring.Statement.{statement}
 use Rattle.search.proofs.pairs.is_ring.Tie as tie
 

@@ -6,7 +6,7 @@ use native.Mathlib.Nat.{le-refl}
 use lib.ListN.{take}
 use borrow.Author.Needs.{needs}
 use Rattle.distance.specs.Distances.{distance}
-use Rattle.search.specs.Turn.{seen}
+use Rattle.paths.specs.Turn.{seen}
 use Rattle.search.proofs.Ahead.{looks-past, looks-yes, looks-no, seen-start, seen-next, seen-on}
 use Rattle.search.proofs.Paths.{path-long}
 use Rattle.search.proofs.turn.look_ahead.Statement.{statement}

@@ -7,8 +7,8 @@ use Prim.Native.Nat.{ℕ, zero, suc, _+_, _-_, _<_, _≤_}
 use native.Mathlib.Nat.{not-suc-le-zero, le-of-suc-le-suc, eq-or-lt-of-le, lt-suc-self, lt-trans}
 use native.Mathlib.Numerals.{add-one}
 use native.Mathlib.Omega.{arith}
-use Rattle.search.specs.Search.{allBelow, gatherBelow}
-use Rattle.search.specs.Turn.{anyBelow}
+use Rattle.paths.specs.Search.{allBelow, gatherBelow}
+use Rattle.paths.specs.Turn.{anyBelow}
 
 pub all-more : (f : ℕ → Bool) (i : ℕ) → allBelow i f ≡ true → f i ≡ true → allBelow (i + 1) f ≡ true
 unfolding allBelow

@@ -15,9 +15,9 @@ use Rattle.graph.proofs.Lists.{append-ascending}
 use Rattle.network.specs.Maxima.{places}
 use Rattle.network.specs.Network.{word, IsNetwork}
 use Rattle.ring.specs.Maxima.{ringLeast}
-use Rattle.search.specs.Search.{Test, Tests, gatherBelow, isRing, nextWord, goesOn, ended, extend, ringsFrom, ringsOf, ringsUpTo}
-use Rattle.search.proofs.Below.{gather-elim}
-use Rattle.search.proofs.Members.{at-last, listed-only}
+use Rattle.paths.specs.Search.{Test, Tests, gatherBelow, isRing, nextWord, goesOn, ended, extend, ringsFrom, ringsOf, ringsUpTo}
+use Rattle.paths.proofs.Below.{gather-elim}
+use Rattle.paths.proofs.Members.{at-last, listed-only}
 
 less-at : (p : List ℕ) {a b : ℕ} (s t : List ℕ) → a < b → Lex _<_ (p ++ (a ∷ s)) (p ++ (b ∷ t))
 less-at [] s t h = inl h

@@ -11,9 +11,9 @@ use lib.ListN.{length, getD, length-append, List·getD-append}
 use lib.Seq.{getD-append-seam, append-snoc}
 use borrow.Author.Tests.{lt-ltb, ltb-true, eq-eqb, eqb-true}
 use Rattle.network.specs.Maxima.{places}
-use Rattle.search.specs.Search.{Test, Tests, pairFits, fitsBefore, everyPair, isRing, follows, nextWord, goesOn, ended, extend, ringsFrom, ringsOf}
-use Rattle.search.specs.Shortest.{Chain, Shortest, Harmless}
-use Rattle.search.proofs.Below.{all-intro, all-elim, gather-intro, gather-elim}
+use Rattle.paths.specs.Search.{Test, Tests, pairFits, fitsBefore, everyPair, isRing, follows, nextWord, goesOn, ended, extend, ringsFrom, ringsOf}
+use Rattle.paths.specs.Shown.{ChainShown, ShortestShown, Harmless}
+use Rattle.paths.proofs.Below.{all-intro, all-elim, gather-intro, gather-elim}
 
 -- a place of a path, and of the path with more
 
@@ -21,13 +21,13 @@ pub at-last : (p : List ℕ) (a : ℕ) (s : List ℕ) → getD (p ++ (a ∷ s)) 
 at-last p a s = getD-append-seam p a s 0
 
 module _ (n : ℕ) (table dist : List ℕ) (k : ℕ) where
-  ring-of : (r : List ℕ) → Shortest n table dist k r → isRing n dist k r ≡ true
+  ring-of : (r : List ℕ) → ShortestShown n table dist k r → isRing n dist k r ≡ true
   unfolding isRing everyPair fitsBefore pairFits
   ring-of r h =
       rw (lt-ltb _ _ (h .sense))
       (all-intro _ k (λ j lt. all-intro _ j (λ i l. eq-eqb _ _ (h .pairs i j l lt))))
 
-  of-ring : (r : List ℕ) → length r ≡ k → Chain n table r → isRing n dist k r ≡ true → Shortest n table dist k r
+  of-ring : (r : List ℕ) → length r ≡ k → ChainShown n table r → isRing n dist k r ≡ true → ShortestShown n table dist k r
   unfolding isRing everyPair fitsBefore pairFits
   of-ring r e w h =
       let b = and-eq-true-iff _ _ .0 h in
@@ -40,7 +40,7 @@ module _ (n : ℕ) (table dist : List ℕ) (k : ℕ) where
 
   -- each shortest-path ring is listed, whatever harmless test turns back
 
-  module _ (may : Test) (harmless : Harmless n table dist k may) (r : List ℕ) (h : Shortest n table dist k r) where
+  module _ (may : Test) (harmless : Harmless n table dist k may) (r : List ℕ) (h : ShortestShown n table dist k r) where
     before : (p s : List ℕ) → r ≡ p ++ s → (i : ℕ) → i < length p → getD r i 0 ≡ getD p i 0
     before p s e i lt = rw e (List·getD-append p s 0 i lt)
 
@@ -81,7 +81,7 @@ module _ (n : ℕ) (table dist : List ℕ) (k : ℕ) where
 
 -- what is listed is a shortest-path ring
 
-pub chain-more : (n : ℕ) (table : List ℕ) (p : List ℕ) (a j : ℕ) → 0 < length p → Chain n table p → j < places → nextWord table p j ≡ a → a < n → getD p 0 0 < a → Chain n table (p ++ (a ∷ []))
+pub chain-more : (n : ℕ) (table : List ℕ) (p : List ℕ) (a j : ℕ) → 0 < length p → ChainShown n table p → j < places → nextWord table p j ≡ a → a < n → getD p 0 0 < a → ChainShown n table (p ++ (a ∷ []))
 chain-more n table p a j some w lt q small first = record { atoms = atoms; bonded = bonded; least = least }
   where
     more : length (p ++ (a ∷ [])) ≡ suc (length p)
@@ -110,17 +110,17 @@ chain-more n table p a j some w lt q small first = record { atoms = atoms; bonde
         (split (i + 1) l)
 
 module _ (n : ℕ) (table dist : List ℕ) (k : ℕ) (may : Test) where
-  pub sound-from : (left : ℕ) (p r : List ℕ) → 0 < length p → Chain n table p → length p + left ≡ k → List·Memᴰ r (extend may n table dist k left p) → Shortest n table dist k r
+  pub sound-from : (left : ℕ) (p r : List ℕ) → 0 < length p → ChainShown n table p → length p + left ≡ k → List·Memᴰ r (extend may n table dist k left p) → ShortestShown n table dist k r
   unfolding extend ended goesOn follows
   sound-from zero p r some w e m = go (isRing n dist k p) refl m
     where
-      go : (b : Bool) → isRing n dist k p ≡ b → List·Memᴰ r (cond b (p ∷ []) []) → Shortest n table dist k r
+      go : (b : Bool) → isRing n dist k p ≡ b → List·Memᴰ r (cond b (p ∷ []) []) → ShortestShown n table dist k r
       go true q m′ = rw (List·Memᴰ·eq-of-singleton m′) (of-ring n table dist k p (omega arith) w q)
       go false q m′ = absurd (List·Memᴰ·not-nil m′)
   sound-from (suc left) p r some w e m =
       let g = gather-elim _ places m in go (λ p′ some′ w′ e′ m′. sound-from left p′ r some′ w′ e′ m′) (g .0) (g .1) (goesOn may n table p (g .0)) refl (g .2)
     where
-      go : ((p′ : List ℕ) → 0 < length p′ → Chain n table p′ → length p′ + left ≡ k → List·Memᴰ r (extend may n table dist k left p′) → Shortest n table dist k r) → (j : ℕ) → j < places → (b : Bool) → goesOn may n table p j ≡ b → List·Memᴰ r (cond b (extend may n table dist k left (p ++ (nextWord table p j ∷ []))) []) → Shortest n table dist k r
+      go : ((p′ : List ℕ) → 0 < length p′ → ChainShown n table p′ → length p′ + left ≡ k → List·Memᴰ r (extend may n table dist k left p′) → ShortestShown n table dist k r) → (j : ℕ) → j < places → (b : Bool) → goesOn may n table p j ≡ b → List·Memᴰ r (cond b (extend may n table dist k left (p ++ (nextWord table p j ∷ []))) []) → ShortestShown n table dist k r
       go rec j lt true q m′ =
           let b = and-eq-true-iff _ _ .0 q in
           let f = and-eq-true-iff _ _ .0 (b .1) in
@@ -130,7 +130,7 @@ module _ (n : ℕ) (table dist : List ℕ) (k : ℕ) (may : Test) where
           (omega arith) m′
       go rec j lt false q m′ = absurd (List·Memᴰ·not-nil m′)
 
-pub chain-one : (n : ℕ) (table : List ℕ) (a : ℕ) → a < n → Chain n table (a ∷ [])
+pub chain-one : (n : ℕ) (table : List ℕ) (a : ℕ) → a < n → ChainShown n table (a ∷ [])
 chain-one n table a lt = record { atoms = λ i l. only i l; bonded = λ i l. absurd (omega arith); least = λ i z l. absurd (omega arith) }
   where
     only : (i : ℕ) → i < 1 → getD (a ∷ []) i 0 < n
@@ -139,14 +139,14 @@ chain-one n table a lt = record { atoms = λ i l. only i l; bonded = λ i l. abs
 
 -- every shortest-path ring is listed, and nothing else is
 module _ (n : ℕ) (table dist : List ℕ) (k : ℕ) (may : Tests) where
-  pub listed-all : Harmless n table dist k (may n dist k) → (r : List ℕ) → 0 < k → Shortest n table dist k r → List·Memᴰ r (ringsOf may n table dist k)
+  pub listed-all : Harmless n table dist k (may n dist k) → (r : List ℕ) → 0 < k → ShortestShown n table dist k r → List·Memᴰ r (ringsOf may n table dist k)
   unfolding ringsOf ringsFrom
   listed-all harmless [] pos h = absurd (omega (arith, h .size))
   listed-all harmless (a ∷ s) pos h =
       let e : k - 1 ≡ length s = omega (arith, h .size) in
       gather-intro _ n a (h .chain .atoms 0 (omega arith)) (rw e (listed-from n table dist k (may n dist k) harmless (a ∷ s) h (a ∷ []) s (omega arith) refl))
 
-  pub listed-only : (r : List ℕ) → 0 < k → List·Memᴰ r (ringsOf may n table dist k) → Shortest n table dist k r
+  pub listed-only : (r : List ℕ) → 0 < k → List·Memᴰ r (ringsOf may n table dist k) → ShortestShown n table dist k r
   unfolding ringsOf ringsFrom
   listed-only r pos m =
       let g = gather-elim _ n m in

@@ -19,7 +19,7 @@ use lib.ListN.{length, getD}
 use lib.Dec.{eqb, ltb}
 use Rattle.graph.specs.Graph.{around}
 use Rattle.distance.specs.Distances.{distance}
-use Rattle.search.specs.Search.{pairFits, fitsBefore}
+use Rattle.paths.specs.Search.{pairFits, fitsBefore}
 
 unfoldable pub anyBelow : ℕ → (ℕ → Bool) → Bool
 anyBelow zero f = false

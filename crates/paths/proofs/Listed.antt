@@ -16,13 +16,13 @@ use Rattle.network.specs.Network.{Bonded, IsNetwork}
 use Rattle.network.proofs.Bonds.{bonded-from, bonded-to, bonded-back}
 use Rattle.distance.specs.Distances.{noPath, DistanceTable}
 use Rattle.ring.specs.Maxima.{ringLeast, ringMost}
-use Rattle.search.specs.Search.{ringsUpTo}
-use Rattle.search.specs.Turn.{mayFollow}
-use Rattle.search.specs.Shortest.{Shortest, RightAsFar}
-use Rattle.search.proofs.Below.{gather-intro, gather-elim}
-use Rattle.search.proofs.Members.{listed-all, listed-only}
-use Rattle.search.proofs.Order.{rows-of, all-asc}
-use Rattle.search.proofs.Harmless.{turn-harmless}
+use Rattle.paths.specs.Search.{ringsUpTo}
+use Rattle.paths.specs.Turn.{mayFollow}
+use Rattle.paths.specs.Shown.{ShortestShown, RightAsFar}
+use Rattle.paths.proofs.Below.{gather-intro, gather-elim}
+use Rattle.paths.proofs.Members.{listed-all, listed-only}
+use Rattle.paths.proofs.Order.{rows-of, all-asc}
+use Rattle.paths.proofs.Harmless.{turn-harmless}
 
 -- a distance table is right as far as the byte for no path
 pub right-as-far : (most n : ℕ) (t d : List ℕ) → most < noPath → DistanceTable n t d → RightAsFar most n t d
@@ -39,7 +39,7 @@ right-as-far most n t d small D x y e lx ly le = (
 
 module _ (n : ℕ) (t dist : List ℕ) (N : IsNetwork n t) (right : RightAsFar (ringMost / 2) n t dist) (limit : ℕ) (most : limit ≤ ringMost) where
   -- a ring as the table and the buffer show it is a shortest-path ring in its one writing
-  listed-of : (k : ℕ) (r : List ℕ) → ringLeast ≤ k → k ≤ limit → Shortest n t dist k r → Listed (Bonded t) 0 OneWriting limit r
+  listed-of : (k : ℕ) (r : List ℕ) → ringLeast ≤ k → k ≤ limit → ShortestShown n t dist k r → Listed (Bonded t) 0 OneWriting limit r
   listed-of k r least within h = record {
     within = omega (arith, h .size);
     shortest = ring-by-distances (Bonded t) (bonded-back n t N) 0 r (omega (arith, h .size)) near;
@@ -52,7 +52,7 @@ module _ (n : ℕ) (t dist : List ℕ) (N : IsNetwork n t) (right : RightAsFar (
           (rw (h .size) (h .pairs i j l (omega (arith, h .size))))
 
   -- and such a ring shows in the table and the buffer
-  shows : (r : List ℕ) → Listed (Bonded t) 0 OneWriting limit r → Shortest n t dist (length r) r
+  shows : (r : List ℕ) → Listed (Bonded t) 0 OneWriting limit r → ShortestShown n t dist (length r) r
   shows r h = record {
     size = refl;
     chain = record {

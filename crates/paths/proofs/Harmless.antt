@@ -10,15 +10,15 @@ use borrow.Author.Tests.{lt-ltb, ltb-true, ltb-false, eq-eqb, eqb-true}
 use Rattle.graph.specs.Graph.{around}
 use Rattle.distance.specs.Distances.{distance}
 use Rattle.ring.specs.Maxima.{ringLeast}
-use Rattle.search.specs.Search.{pairFits, fitsBefore}
-use Rattle.search.specs.Turn.{anyBelow, antipodes, lastAbove, reaches, lookAhead, mayFollow}
-use Rattle.search.specs.Shortest.{Shortest, Harmless}
-use Rattle.search.proofs.Below.{any-found, all-intro}
-use Rattle.search.proofs.Members.{at-last}
+use Rattle.paths.specs.Search.{pairFits, fitsBefore}
+use Rattle.paths.specs.Turn.{anyBelow, antipodes, lastAbove, reaches, lookAhead, mayFollow}
+use Rattle.paths.specs.Shown.{ShortestShown, Harmless}
+use Rattle.paths.proofs.Below.{any-found, all-intro}
+use Rattle.paths.proofs.Members.{at-last}
 
 -- the test is harmless
 
-module _ (n : ℕ) (table dist : List ℕ) (k : ℕ) (least : ringLeast ≤ k) (r : List ℕ) (h : Shortest n table dist k r) (p : List ℕ) (a : ℕ) (s : List ℕ) (some : 0 < length p) (e : r ≡ p ++ (a ∷ s)) where
+module _ (n : ℕ) (table dist : List ℕ) (k : ℕ) (least : ringLeast ≤ k) (r : List ℕ) (h : ShortestShown n table dist k r) (p : List ℕ) (a : ℕ) (s : List ℕ) (some : 0 < length p) (e : r ≡ p ++ (a ∷ s)) where
   long : length p < k
   long = rw (← h .size, e, length-append p (a ∷ s)) (omega arith)
 

@@ -8,15 +8,15 @@ use native.Mathlib.Decide.{ℕ-discrete}
 use lib.ListN.{length, getD, set, replicate, length-set, length-map}
 use lib.Seq.{ext-getD, getD-set-same, getD-set-other}
 use borrow.Author.Tests.{eq-eqb, ne-eqb}
-use Rattle.graph.specs.Lists.{_∈_, count}
+use Rattle.graph.specs.Lists.{_∈_, numbersFrom}
 use Rattle.graph.proofs.Lists.{getD-map, length-count, getD-count}
 use Rattle.ring.specs.Maxima.{ringLeast, ringMost}
 use Rattle.graph.specs.Counts.{ofLength, lengthsOf}
 use Rattle.census.specs.Census.{countsBy, countsOf}
-use Rattle.search.specs.Search.{gatherBelow, ringsOf, ringsUpTo, countsUpTo, lengthsUpTo}
-use Rattle.search.specs.Turn.{mayFollow}
-use Rattle.search.proofs.Below.{gather-elim}
-use Rattle.search.proofs.Members.{listed-only}
+use Rattle.paths.specs.Search.{gatherBelow, ringsOf, ringsUpTo, countsUpTo, lengthsUpTo}
+use Rattle.paths.specs.Turn.{mayFollow}
+use Rattle.paths.proofs.Below.{gather-elim}
+use Rattle.paths.proofs.Members.{listed-only}
 
 module _ (k : ℕ) where
   of-here : (r : List ℕ) (xs : List (List ℕ)) → length r ≡ k → ofLength k (r ∷ xs) ≡ suc (ofLength k xs)
@@ -51,13 +51,13 @@ all-alike k (r ∷ xs) h = omega (arith, h r (List·Memᴰ·head refl), all-alik
 
 counts-long : (xs : List (List ℕ)) → length (countsOf xs) ≡ ringMost + 1
 unfolding countsBy
-counts-long xs = length-map (count (ringMost + 1) 0) (λ k. ofLength k xs) ∙ length-count (ringMost + 1) 0
+counts-long xs = length-map (numbersFrom (ringMost + 1) 0) (λ k. ofLength k xs) ∙ length-count (ringMost + 1) 0
 
 -- the count at place k is the number of rings of k atoms
 pub count-at : (xs : List (List ℕ)) (k : ℕ) → k ≤ ringMost → getD (countsOf xs) k 0 ≡ ofLength k xs
 unfolding countsBy
 count-at xs k l =
-    getD-map (λ k. ofLength k xs) (count (ringMost + 1) 0) k 0 0 (omega (arith, length-count (ringMost + 1) 0))
+    getD-map (λ k. ofLength k xs) (numbersFrom (ringMost + 1) 0) k 0 0 (omega (arith, length-count (ringMost + 1) 0))
     ∙ ap (λ m. ofLength m xs) (getD-count (ringMost + 1) 0 k 0 (omega arith) ∙ omega arith)
 
 counts-none : replicate (ringMost + 1) 0 ≡ countsOf []
