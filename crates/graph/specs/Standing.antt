@@ -2,7 +2,8 @@
 -- and which of them is its one writing (Written).
 --
 --   StandsOnce Same rings r            one of the writings of r stands at one place of the list, and no other at any place
---   StandExactly .. limit rings        what stands in the list: exactly the rings of which that is so, each in its one writing, in list order
+--   StandExactly .. limit rings        what stands in the list: exactly the rings of at most limit vertices whose distances round the ring are those in
+--                                      the network (RoundIsDistance), each once, in its one writing, in list order
 --   OneEach Bonded o Same Written      what a form has to be: a ring is the same as itself, and the same there and back; the same ring is as long, and
 --                                      a shortest-path ring too; and each ring has one writing
 use mathlib.Core.Path.{_≡_}

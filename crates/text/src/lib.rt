@@ -26,7 +26,7 @@ pub fn listing(
     ensures { λ r. ⌜ page r (now (out .exit)) ≡ putAll (listingText atoms bonds (now (list .entry)) counts total) (page firstPen (now (out .entry))) ⌝ }
 {
     let begun = Pen { at: 0, whole: true };
-    let first = lines::sizes(out, begun, atoms, bonds);
+    let first = lines::sizes_line(out, begun, atoms, bonds);
     let listed = lines::rings(out, first, list);
     let counted = lines::counts(out, listed, counts);
     lines::total(out, counted, total)

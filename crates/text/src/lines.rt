@@ -6,7 +6,7 @@ ghost use mathlib.Core.Path.{_≡_};
 ghost use Rattle.text.specs.Page.{page, putAll};
 ghost use Rattle.text.specs.Lines.{sizesText, wordText, leftAfter, wordsText, endText, countText, countsText, totalText};
 
-pub fn sizes(out: &mut [u8], pen: Pen, atoms: usize, bonds: usize) -> Pen
+pub fn sizes_line(out: &mut [u8], pen: Pen, atoms: usize, bonds: usize) -> Pen
     ensures { λ r. ⌜ page r (now (out .exit)) ≡ putAll (sizesText atoms bonds) (page pen (now (out .entry))) ⌝ }
 {
     let first = put::named(out, pen, b"atoms ", atoms);

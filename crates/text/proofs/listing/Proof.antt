@@ -3,8 +3,8 @@ use borrow.Author.Needs.{needs}
 use Rattle.text.proofs.listing.Statement.{statement}
 use Rattle.text.proofs.listing.Tie as tie
 
-sizes-requires : tie.Need-sizes-requires
-sizes-requires c κs = search needs
+sizes-line-requires : tie.Need-sizes-line-requires
+sizes-line-requires c κs = search needs
 
 rings-requires : tie.Need-rings-requires
 rings-requires c κs = search needs
@@ -19,9 +19,9 @@ same-length : tie.Need-same-length
 same-length c = search needs
 
 returns : tie.Need-returns
-returns c = listing-is _ _ _ _ _ _ _ _ _ _ (c .before .before .before .before .before .before .before .before .before .before .before .before .before .before .sizes .ensures) (c .before .before .before .before .before .before .before .before .before .before .rings .ensures) (c .before .before .before .before .before .before .counts .ensures) (c .before .before .total .ensures)
+returns c = listing-is _ _ _ _ _ _ _ _ _ _ (c .before .before .before .before .before .before .before .before .before .before .before .before .before .before .sizes-line .ensures) (c .before .before .before .before .before .before .before .before .before .before .rings .ensures) (c .before .before .before .before .before .before .counts .ensures) (c .before .before .total .ensures)
 
 pub listing-spec : {M : Type 1} → statement M
 listing-spec =
     tie.close
-    (tie.spec sizes-requires rings-requires counts-requires total-requires same-length returns)
+    (tie.spec sizes-line-requires rings-requires counts-requires total-requires same-length returns)

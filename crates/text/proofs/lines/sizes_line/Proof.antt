@@ -1,7 +1,7 @@
 use Rattle.text.proofs.Texts.{sizes-are}
 use borrow.Author.Needs.{needs}
-use Rattle.text.proofs.lines.sizes.Statement.{statement}
-use Rattle.text.proofs.lines.sizes.Tie as tie
+use Rattle.text.proofs.lines.sizes_line.Statement.{statement}
+use Rattle.text.proofs.lines.sizes_line.Tie as tie
 
 slice-aggregate-named : tie.Need-slice-aggregate-named
 slice-aggregate-named c = search needs
@@ -24,8 +24,8 @@ same-length c = search needs
 returns : tie.Need-returns
 returns c = sizes-are _ _ _ _ _ _ (c .before .before .before .before .before .before .before .before .before .before .before .named .ensures) (c .before .before .before .before .before .before .named2 .ensures) (c .before .before .byte .ensures)
 
-pub sizes-spec : {M : Type 1} → statement M
-sizes-spec =
+pub sizes-line-spec : {M : Type 1} → statement M
+sizes-line-spec =
     tie.close
     (tie.spec
     slice-aggregate-named
