@@ -38,9 +38,9 @@ fn ring_faults(n: usize, table: &[u16], ring: &[u16]) -> Answer
     if given.len == 0 {
         return Answer::refused(14);
     }
-    let notAtom = first_outside(n, ring);
-    if notAtom < ring.len() {
-        return at_place(15, notAtom);
+    let outside = first_outside(n, ring);
+    if outside < ring.len() {
+        return at_place(15, outside);
     }
     let repeated = first_repeated(ring);
     if repeated < ring.len() {
