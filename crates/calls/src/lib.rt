@@ -1,8 +1,6 @@
 // Each call of the library, made, and ensured of it all that is demanded of it, refused or accepted (`demands`); none requires anything.
-// Two calls after each other are in files (read and written again) and renumbering (renumbered and listed), the program's in program.
-pub mod files;
+// The program's is in program; calls made one after the other are in `two_calls`.
 pub mod program;
-pub mod renumbering;
 
 use bnw::FileRead;
 use bnw::FileWritten;

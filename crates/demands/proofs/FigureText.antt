@@ -17,8 +17,9 @@ use Rattle.census.proofs.Passed.{limit-default}
 use Rattle.bnw.specs.File.{bondAt, bondsOf, partner, partners}
 use Rattle.bnw.specs.Reading.{signed, outOfRange, marked, headFault, earlierBond, inside, inOrder, full, fileBondFault, orAt, firstBond, readVerdict}
 use Rattle.bnw.proofs.Returns.{bonds-valid, table-back}
+use Rattle.page.specs.Numbers.{digits}
 use Rattle.text.specs.Letters.{letters}
-use Rattle.text.specs.Lines.{digits, sizesText, ringText, countText, countsText, totalText, refusalText}
+use Rattle.text.specs.Lines.{sizesText, ringText, countText, countsText, totalText, refusalText}
 use Rattle.report.specs.Report.{tableWords, textBytes, ringsText, ListingText, FileText, Responds}
 use Rattle.report.proofs.OneText.{file-text-one}
 use Rattle.demands.proofs.FigureFile.{file, figure-1-written}

@@ -12,7 +12,8 @@
 --    succeed with equal counts or both are refused with the same number.
 --    Stated in Renumbering.
 --
--- What the program prints is stated in Program. The crate `calls` ensures all this of the calls; what is claimed beside it is one record:
+-- What the program prints is stated in Program. The crates `calls` and `two_calls` ensure all this of the calls; what is claimed beside it
+-- is one record:
 --
 --   Demands     one outcome of each call and one text of each file, and P1 to P11
 use Rattle.demands.specs.OneOutcome.{ValidateFixed, DistancesFixed, CandidateFixed, CountFixed, ListFixed, RenumberFixed, WriteFixed, ReadFixed}

@@ -1,5 +1,5 @@
 // What is demanded of the library: the sentences are in specs/Demands, which says where each is stated; that contracts as the library's meet
-// them, and one outcome only, is in proofs/. The crate `calls` makes the calls, and ensures of each all that is demanded of it.
+// them, and one outcome only, is in proofs/. The crates `calls` and `two_calls` make the calls, and ensure of them all that is demanded.
 use bnw::FileRead;
 use bnw::FileWritten;
 use census::Census;

@@ -20,11 +20,11 @@ use Rattle.bnw.specs.declared.FileRead.{FileRead}
 use Rattle.bnw.specs.File.{tableOf}
 use Rattle.bnw.specs.Reading.{readVerdict, ReadOutcome}
 use Rattle.bnw.proofs.RoundTrips.{table-is}
-use Rattle.text.specs.declared.Pen.{Pen}
-use Rattle.text.specs.Page.{Page, page, firstPen, putAll}
+use Rattle.page.specs.declared.Pen.{Pen}
+use Rattle.page.specs.Page.{Page, page, firstPen, putAll}
+use Rattle.page.proofs.Pages.{text-fits}
 use Rattle.text.specs.Lines.{ringText, wordsText, sizesText, countsText, totalText, listingText, refusalText}
-use Rattle.text.proofs.Pages.{text-fits}
-use Rattle.text.proofs.Spelled.{rings-text}
+use Rattle.text.proofs.Words.{rings-text}
 use Rattle.report.specs.Report.{tableWords, listWords, textBytes, ringsText, ListingText, FileText, Stands, ListsText, Responds}
 use Rattle.report.proofs.Fits.{refusal-fits, listing-text-fits}
 

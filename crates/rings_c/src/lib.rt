@@ -1,13 +1,12 @@
 // The library for C and for every language that calls C, as include/rings.h declares it.
 //
 // Each function passes on one call and has that call's contract; a slice crosses as pointer and length, an
-// answer that holds an enum as a flat struct.
-mod flat;
-
+// answer that holds an enum as a flat struct (`flat`).
 use bnw::FileRead;
 use bnw::FileWritten;
+use flat::FlatCandidate;
+use flat::FlatCensus;
 use network::Answer;
-use ring::Ring;
 ghost use mathlib.Core.Path.{_≡_};
 ghost use Rattle.network.specs.Verdict.{verdict};
 ghost use Rattle.candidate.specs.CandidateOutcome.{CandidateOutcome};
@@ -17,40 +16,7 @@ ghost use Rattle.bnw.specs.Writing.{WriteOutcome};
 ghost use Rattle.report.specs.Report.{Responds};
 ghost use Rattle.distance.specs.Outcome.{DistancesOutcome};
 ghost use Rattle.renumber.specs.Outcome.{RenumberOutcome};
-ghost use Rattle.rings_c.specs.Flat.{flatCensus, flatCandidate, PassedOn};
-
-// What counting and listing answer.
-#[repr(C)]
-pub struct FlatCensus {
-    pub answer: Answer,
-    // The limit used.
-    pub limit: usize,
-    // The number of rings of each length.
-    pub counts: [u32; Ring::LENGTH + 1],
-    // The number of rings.
-    pub total: u32,
-    // The words that their list takes.
-    pub words: usize,
-    // Rings per atom.
-    pub per_atom: f64,
-    // Whether there are rings, and so a mean length.
-    pub has_mean: bool,
-    // The mean length of the rings, or +0.0.
-    pub mean: f64,
-}
-
-// What the test of a candidate answers.
-#[repr(C)]
-pub struct FlatCandidate {
-    pub answer: Answer,
-    // Whether it is a shortest-path ring.
-    pub yes: bool,
-    // Where it is not, the first pair of its places whose network distance is shorter.
-    pub first: usize,
-    pub second: usize,
-    // Where it is, its one writing; the other words are 0.
-    pub writing: [u16; Ring::LENGTH],
-}
+ghost use Rattle.flat.specs.Flat.{flatCensus, flatCandidate, PassedOn};
 
 // The first fault of a bond table.
 #[no_mangle]

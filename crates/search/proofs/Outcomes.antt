@@ -25,7 +25,7 @@ use Rattle.search.specs.State.{Net, Tallied}
 use Rattle.census.proofs.Passed.{reached-exactly}
 use Rattle.paths.proofs.Listed.{right-as-far, the-listing}
 use Rattle.paths.proofs.Counts.{counts-all, lengths-all}
-use Rattle.search.proofs.Noted.{too-many, not-many, total, needed, holds}
+use Rattle.notes.proofs.Noted.{too-many, not-many, total, needed, holds}
 use Rattle.census.proofs.Settled.{code, unrefused, reached, told-count}
 
 abbrev number : Answer → ℕ

@@ -15,10 +15,11 @@ use Rattle.network.specs.Maxima.{places, free}
 use Rattle.paths.specs.Search.{Test, gatherBelow, nextWord, goesOn, follows, ended, extend, branch}
 use Rattle.paths.specs.Shown.{Ends}
 use Rattle.census.specs.Census.{plain}
-use Rattle.search.specs.State.{PathIn, State, noteAll}
+use Rattle.notes.specs.Noting.{State, noteAll}
+use Rattle.search.specs.State.{PathIn}
 use Rattle.paths.proofs.Below.{gather-rest}
 use Rattle.search.proofs.Paths.{path-long}
-use Rattle.search.proofs.Notes.{all-append}
+use Rattle.notes.proofs.Notes.{all-append}
 
 -- what stands at a place of the last atom's row
 pub place-at : (table path : List ℕ) (i len x : ℕ) → length path ≡ len → x ≡ getD path (len - 1) 0 → getD table (x * places + i) 0 ≡ nextWord table path i

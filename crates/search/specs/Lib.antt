@@ -1,2 +1,2 @@
--- What the search has found so far.
+-- What a step of the search is given, and what it has found after it.
 pub mod State

@@ -1,13 +1,5 @@
--- What the search has found so far: the count, and the list that it writes. A ring is of any form: its length is its `size`, `told` gives the
--- words of its vertices; a ring of atoms is told by their numbers.
+-- What a step of the search is given, and what it has found after it.
 --
---   State                what the search has found, and the words of the list
---   state found words    the state with these
---   wrote size told ring s    a ring is counted, with the words that it takes, and written where it fits
---   note size told a ring s    a ring is noted, unless the allowance a is used up
---   noteAll size told a rings s    one after another
---   none                 nothing found yet
---   Fits f               the words taken are at most a longest ring's for each ring
 --   PathIn n words len   of the words of a path the first `len` are atoms below n
 --   Given .. len         the distances of n atoms, and a path of them that is to be a ring of k
 --   Net n table dist k   a network with its distances, and a ring's length
@@ -17,49 +9,18 @@
 --   Tallied ..           what the whole search does: every ring of the m least lengths is noted, and, where there are no more than the allowance, the counts are right,
 --                        and so is the sum of the lengths
 use mathlib.Core.Path.{_≡_}
-use Prim.Native.Nat.{ℕ, _+_, _-_, _*_, _<_, _≤_}
-use mathlib.Core.Bool.{true, false, cond}
-use mathlib.Core.List.{List, [], _∷_}
+use Prim.Native.Nat.{ℕ, _-_, _*_, _<_, _≤_}
+use mathlib.Core.Bool.{false}
+use mathlib.Core.List.{List}
 use lib.ListN.{length, getD, take}
-use lib.Seq.{sets}
-use lib.Dec.{ltb}
 use Rattle.census.specs.Census.{plain}
 use Rattle.network.specs.Network.{IsNetwork}
 use Rattle.ring.specs.Maxima.{ringLeast, ringMost}
 use Rattle.paths.specs.Search.{ringsUpTo, countsUpTo, lengthsUpTo}
 use Rattle.paths.specs.Turn.{mayFollow}
-use Rattle.search.specs.declared.note.Found.{Found}
+use Rattle.notes.specs.declared.Found.{Found}
+use Rattle.notes.specs.Noting.{state, noteAll, none, Fits}
 use Rattle.search.specs.declared.grow.Tally.{Tally}
-
-pub record State : Type 0 where
-  pub found : Found
-  pub words : List ℕ
-
-abbrev pub state : Found → List ℕ → State
-state f l = record { found = f; words = l }
-
-module _ {AnyRing : Type 0} (size : AnyRing → ℕ) (told : AnyRing → List ℕ) where
-  unfoldable pub wrote : AnyRing → State → State
-  wrote ring s =
-      state (record { rings = s .found .rings + 1; at = s .found .at + (length (told ring) + 1); over = false })
-      (cond (ltb (s .found .at + length (told ring)) (length (s .words))) (sets (s .words) (s .found .at) (size ring ∷ told ring)) (s .words))
-
-  unfoldable pub note : ℕ → AnyRing → State → State
-  note allowance ring s =
-      cond (s .found .over) s
-      (cond (ltb (s .found .rings) allowance)
-      (wrote ring s)
-      (state (record { rings = s .found .rings; at = s .found .at; over = true }) (s .words)))
-
-  unfoldable pub noteAll : ℕ → List AnyRing → State → State
-  noteAll allowance [] s = s
-  noteAll allowance (r ∷ rs) s = noteAll allowance rs (note allowance r s)
-
-abbrev pub none : Found
-none = record { rings = 0; at = 0; over = false }
-
-abbrev pub Fits : Found → Type 0
-Fits f = f .at ≤ (ringMost + 1) * f .rings
 
 pub record PathIn (n : ℕ) (words : List ℕ) (len : ℕ) : Type 0 where
   pub room : length words ≡ ringMost

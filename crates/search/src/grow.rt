@@ -1,9 +1,8 @@
 // The search: a path grows by one atom after another, in the order of the list.
-use crate::note;
-use crate::note::Found;
 use crate::pairs;
 use crate::turn;
 use network::Network;
+use notes::Found;
 use ring::Ring;
 ghost use mathlib.Core.Path.{_≡_};
 ghost use Prim.Native.Nat.{_+_, _-_, _*_, _<_, _≤_};
@@ -11,9 +10,10 @@ ghost use lib.ListN.{length, take};
 ghost use Rattle.network.specs.Maxima.{atomsMost, places};
 ghost use Rattle.network.specs.Network.{word};
 ghost use Rattle.ring.specs.Maxima.{ringLeast};
-ghost use Rattle.paths.specs.Search.{extend, ringsOf};
+ghost use Rattle.paths.specs.Search.{ended, extend, ringsOf};
 ghost use Rattle.paths.specs.Turn.{mayFollow, Hint};
-ghost use Rattle.search.specs.State.{Net, Grows, Fits, Notes, Grew, Tallied};
+ghost use Rattle.notes.specs.Noting.{Fits};
+ghost use Rattle.search.specs.State.{Given, Net, Grows, Notes, Grew, Tallied};
 
 // What is found, with a count for each length, and the lengths of the rings added up.
 pub struct Tally {
@@ -116,7 +116,7 @@ fn grow(
         return found;
     }
     if left == 0 {
-        return note::complete(n, dist, k, path, allowance, found, list);
+        return complete(n, dist, k, path, allowance, found, list);
     }
     let len = k - left;
     let last = pairs::atom_at(n, path, len, len - 1);
@@ -136,6 +136,27 @@ fn grow(
         i += 1;
     }
     f
+}
+
+// A whole path is noted if it is a ring.
+fn complete(
+    n: usize,
+    dist: &[u8],
+    k: usize,
+    path: &[u16; Ring::LENGTH],
+    allowance: u32,
+    found: Found,
+    list: &mut [u16],
+) -> Found
+    requires { ⌜ Given n (now dist) k (now path) k ⌝ }
+    requires { ⌜ (ringLeast ≤ k) × Fits found ⌝ }
+    ensures { λ r. ⌜ Notes allowance (ended n (now (dist .entry)) k (take k (now (path .entry)))) found (now (list .entry)) r (now (list .exit)) ⌝ }
+{
+    if pairs::is_ring(n, dist, k, path) {
+        let words: &[u16] = path;
+        return notes::note(&words[..k], allowance, found, list);
+    }
+    found
 }
 
 // What stands at place i of an atom's row.

@@ -1,7 +1,6 @@
 // The search for shortest-path rings: counting and listing them.
 mod answers;
 mod grow;
-mod note;
 mod pairs;
 mod turn;
 

@@ -1,48 +1,18 @@
--- How long the texts are at most. A number has at most `digitsMost` digits; in the line of a ring, whose length has at most two and
--- whose atoms have at most three, it is five bytes for each word of the list.
+-- How long the texts are at most: in the line of a ring, whose length has at most two digits and whose atoms have at most three, it is
+-- five bytes for each word of the list.
 use mathlib.Core.Path.{refl}
 use mathlib.Core.Bool.{true, false, cond}
 use mathlib.Core.List.{List, [], _∷_, _++_, List·Memᴰ·head, List·Memᴰ·tail}
-use Prim.Native.Nat.{ℕ, zero, suc, _+_, _*_, _/_, _%_, _^_, _≤_, _<_}
-use native.Mathlib.Nat.{pow-suc}
-use native.Mathlib.Decide.{decLt}
+use Prim.Native.Nat.{ℕ, suc, _+_, _*_, _≤_, _<_}
 use native.Mathlib.Omega.{arith}
-use borrow.Author.Tests.{lt-ltb, le-ltb}
 use lib.Dec.{eqb}
 use lib.ListN.{length, length-append}
 use Rattle.graph.specs.Lists.{_∈_, gather}
 use Rattle.graph.specs.Counts.{wordsOf}
 use Rattle.network.specs.declared.Answer.{Answer}
-use Rattle.text.specs.Lines.{digits, digitsMost, number, space, newline, atomsName, bondsName, ringName, countName, totalName, refusedName, sizesText, ringText, countText, countsText, totalText, refusalText}
-
-digits-length : (left n : ℕ) → length (digits left n) ≤ left
-unfolding digits
-digits-length zero n = omega arith
-digits-length (suc left) n =
-    elim (decLt n 10) [
-      | yes l ↦ rw (lt-ltb _ _ l) (omega arith)
-      | no l ↦ (let k : 10 ≤ n = omega arith in
-          rw (le-ltb _ _ k) (omega (arith, digits-length left (n / 10), length-append (digits left (n / 10)) ((48 + n % 10) ∷ []))))
-    ]
-
-number-length : (n : ℕ) → length (number n) ≤ digitsMost
-number-length n = digits-length digitsMost n
-
--- a number below a power of ten
-digits-short : (left d n : ℕ) → n < 10 ^ suc d → length (digits left n) ≤ suc d
-unfolding digits
-digits-short zero d n h = omega arith
-digits-short (suc left) zero n h = rw (lt-ltb n 10 h) (omega arith)
-digits-short (suc left) (suc d) n h =
-    elim (decLt n 10) [
-      | yes l ↦ rw (lt-ltb _ _ l) (omega arith)
-      | no l ↦ (let k : 10 ≤ n = omega arith in
-          rw (le-ltb _ _ k)
-          (omega (arith, digits-short left d (n / 10) (omega (arith, pow-suc 10 (suc d))), length-append (digits left (n / 10)) ((48 + n % 10) ∷ []))))
-    ]
-
-named-length : (name : List ℕ) (n : ℕ) → length (name ++ number n) ≤ length name + digitsMost
-named-length name n = omega (arith, length-append name (number n), number-length n)
+use Rattle.page.specs.Numbers.{digitsMost, number}
+use Rattle.page.proofs.Numbers.{digits-short, named-length}
+use Rattle.text.specs.Lines.{space, newline, atomsName, bondsName, ringName, countName, totalName, refusedName, sizesText, ringText, countText, countsText, totalText, refusalText}
 
 pub sizes-length : (n bonds : ℕ) → length (sizesText n bonds) ≤ 54
 unfolding sizesText

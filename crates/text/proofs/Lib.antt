@@ -1,5 +1,4 @@
--- Laws of writing on a page, and of the lines.
-pub mod Pages
+-- Laws of the lines.
 pub mod Texts
-pub mod Spelled
+pub mod Words
 pub mod Lengths

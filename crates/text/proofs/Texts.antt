@@ -1,16 +1,16 @@
 -- The lines, at each way through the tests.
 use mathlib.Core.Path.{_≡_, refl, sym, _∙_, ap}
-use mathlib.Core.List.{List, [], _∷_, _++_}
-use Prim.Native.Nat.{ℕ, zero, suc, _+_, _-_, _/_, _%_, _≤_, _<_}
+use mathlib.Core.List.{List, _∷_, _++_}
+use Prim.Native.Nat.{ℕ, _+_, _-_, _≤_, _<_}
 use native.Mathlib.Numerals.{add-one}
-use native.Mathlib.Omega.{arith}
 use lib.ListN.{length, getD, drop}
 use lib.Seq.{drop-cons}
-use borrow.Author.Tests.{eq-eqb, ne-eqb, lt-ltb, le-ltb}
-use Rattle.text.specs.Page.{Page, put, putAll}
+use borrow.Author.Tests.{eq-eqb, ne-eqb}
 use Rattle.network.specs.declared.Answer.{Answer}
-use Rattle.text.specs.Lines.{digits, number, space, atomsName, bondsName, ringName, countName, totalName, refusedName, sizesText, leftAfter, endText, wordText, wordsText, countText, countsText, totalText, listingText, refusalText}
-use Rattle.text.proofs.Pages.{put-one, put-all-join, then, at-end}
+use Rattle.page.specs.Page.{Page, put, putAll}
+use Rattle.page.specs.Numbers.{number}
+use Rattle.page.proofs.Pages.{put-one, put-all-join, then, at-end}
+use Rattle.text.specs.Lines.{space, atomsName, bondsName, ringName, countName, totalName, refusedName, sizesText, leftAfter, endText, wordText, wordsText, countText, countsText, totalText, listingText, refusalText}
 
 pub left-begins : (left w : ℕ) → left ≡ 0 → w ≡ leftAfter left w
 unfolding leftAfter
@@ -27,22 +27,6 @@ line-ends left s t h e = rw (eq-eqb _ _ h) (e ∙ put-one 10 s)
 pub line-goes-on : (left : ℕ) (s : Page) → (left ≡ 0 → ⊥) → s ≡ putAll (endText left) s
 unfolding endText putAll
 line-goes-on left s h = rw (ne-eqb _ _ h) refl
-
-pub digits-none : (left n : ℕ) (s : Page) → left ≡ 0 → s ≡ putAll (digits left n) s
-unfolding digits putAll
-digits-none left n s h = rw h refl
-
-pub digits-one : (left n : ℕ) (s t : Page) → (left ≡ 0 → ⊥) → n < 10 → t ≡ put (48 + n % 10) s → t ≡ putAll (digits left n) s
-unfolding digits
-digits-one zero n s t h l e = absurd (h refl)
-digits-one (suc left) n s t h l e = rw (lt-ltb _ _ l) (e ∙ put-one (48 + n % 10) s)
-
-pub digits-more : (left n : ℕ) (s t r : Page) → (left ≡ 0 → ⊥) → 10 ≤ n → t ≡ putAll (digits (left - 1) (n / 10)) s → r ≡ put (48 + n % 10) t → r ≡ putAll (digits left n) s
-unfolding digits
-digits-more zero n s t r h l e f = absurd (h refl)
-digits-more (suc left) n s t r h l e f =
-    rw (le-ltb _ _ l)
-    (then (digits left (n / 10)) ((48 + n % 10) ∷ []) s t r (e ∙ ap (λ (k : ℕ). putAll (digits k (n / 10)) s) (let d : suc left - 1 ≡ left = omega arith in d)) (f ∙ put-one (48 + n % 10) t))
 
 -- the lines that are made of pieces
 module _ (s : Page) where

@@ -1,4 +1,3 @@
--- What is printed: a page that a text is written on (Page), and the lines (Lines) in letters (Letters).
-pub mod Page
+-- What is printed: the lines (Lines) in letters (Letters).
 pub mod Letters
 pub mod Lines

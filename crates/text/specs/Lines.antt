@@ -1,9 +1,5 @@
 -- The lines of a listing, as bytes (document 01, "The network file").
 --
---   digits left n          the decimal digits of n, at most `left` of them
---   digitsMost             the most digits of a number of the machine
---   number n               n in decimal
---   valueOf v ds           the number that the digits ds spell after v
 --   space, newline         the bytes between numbers, and at the end of a line
 --   atomsName, bondsName, ringName, countName, totalName, refusedName    the names before the numbers
 --   sizesText n bonds      the line `atoms 7 bonds 9`
@@ -19,27 +15,13 @@
 --   listingText ..         a listing: atoms and bonds, the words of the list, the counts by length, the total
 use mathlib.Core.Bool.{cond}
 use mathlib.Core.List.{List, [], _∷_, _++_}
-use Prim.Native.Nat.{ℕ, zero, suc, _+_, _-_, _*_, _/_, _%_}
-use lib.Dec.{ltb, eqb}
+use Prim.Native.Nat.{ℕ, _+_, _-_}
+use lib.Dec.{eqb}
 use lib.ListN.{length}
 use Rattle.graph.specs.Lists.{gather}
 use Rattle.network.specs.declared.Answer.{Answer}
+use Rattle.page.specs.Numbers.{number}
 use Rattle.text.specs.Letters.{letters}
-
--- 48 is the digit 0
-unfoldable pub digits : ℕ → ℕ → List ℕ
-digits zero n = []
-digits (suc left) n = cond (ltb n 10) ((48 + n % 10) ∷ []) (digits left (n / 10) ++ ((48 + n % 10) ∷ []))
-
-abbrev pub digitsMost : ℕ
-digitsMost = 20
-
-abbrev pub number : ℕ → List ℕ
-number n = digits digitsMost n
-
-unfoldable pub valueOf : ℕ → List ℕ → ℕ
-valueOf v [] = v
-valueOf v (d ∷ ds) = valueOf (v * 10 + (d - 48)) ds
 
 abbrev pub space : List ℕ
 space = letters " "

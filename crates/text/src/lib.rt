@@ -1,18 +1,12 @@
 // The lines that the listing program prints, written into a lent byte buffer.
 mod lines;
-mod put;
 
 use network::Answer;
+use page::Pen;
 use ring::Ring;
 ghost use mathlib.Core.Path.{_≡_};
-ghost use Rattle.text.specs.Page.{page, firstPen, putAll};
+ghost use Rattle.page.specs.Page.{page, firstPen, putAll};
 ghost use Rattle.text.specs.Lines.{listingText, refusalText};
-
-// Where the next byte goes, and whether every byte so far had room.
-pub struct Pen {
-    pub at: usize,
-    pub whole: bool,
-}
 
 // A listing: atoms and bonds, the words of the list, the counts by length, the total.
 pub fn listing(
@@ -37,8 +31,8 @@ pub fn refusal(answer: Answer, out: &mut [u8]) -> Pen
     ensures { λ r. ⌜ page r (now (out .exit)) ≡ putAll (refusalText answer) (page firstPen (now (out .entry))) ⌝ }
 {
     let begun = Pen { at: 0, whole: true };
-    let code = put::named(out, begun, b"refused ", answer.code as usize);
-    let row = put::named(out, code, b" ", answer.row);
-    let place = put::named(out, row, b" ", answer.place);
-    put::byte(out, place, b'\n')
+    let code = page::named(out, begun, b"refused ", answer.code as usize);
+    let row = page::named(out, code, b" ", answer.row);
+    let place = page::named(out, row, b" ", answer.place);
+    page::byte(out, place, b'\n')
 }

@@ -1,17 +1,16 @@
 // The lines of a listing.
-use crate::Pen;
-use crate::put;
+use page::Pen;
 use ring::Ring;
 ghost use mathlib.Core.Path.{_≡_};
-ghost use Rattle.text.specs.Page.{page, putAll};
+ghost use Rattle.page.specs.Page.{page, putAll};
 ghost use Rattle.text.specs.Lines.{sizesText, wordText, leftAfter, wordsText, endText, countText, countsText, totalText};
 
 pub fn sizes_line(out: &mut [u8], pen: Pen, atoms: usize, bonds: usize) -> Pen
     ensures { λ r. ⌜ page r (now (out .exit)) ≡ putAll (sizesText atoms bonds) (page pen (now (out .entry))) ⌝ }
 {
-    let first = put::named(out, pen, b"atoms ", atoms);
-    let second = put::named(out, first, b" bonds ", bonds);
-    put::byte(out, second, b'\n')
+    let first = page::named(out, pen, b"atoms ", atoms);
+    let second = page::named(out, first, b" bonds ", bonds);
+    page::byte(out, second, b'\n')
 }
 
 // The words of a list: each ring's length, then its atoms, on a line.
@@ -45,10 +44,10 @@ fn word(out: &mut [u8], pen: Pen, left: usize, w: usize) -> Pen
     ensures { λ r. ⌜ page r (now (out .exit)) ≡ putAll (wordText left w) (page pen (now (out .entry))) ⌝ }
 {
     if left == 0 {
-        let begun = put::named(out, pen, b"ring ", w);
+        let begun = page::named(out, pen, b"ring ", w);
         return line_end(out, begun, w);
     }
-    let next = put::named(out, pen, b" ", w);
+    let next = page::named(out, pen, b" ", w);
     line_end(out, next, left - 1)
 }
 
@@ -57,7 +56,7 @@ fn line_end(out: &mut [u8], pen: Pen, left: usize) -> Pen
     ensures { λ r. ⌜ page r (now (out .exit)) ≡ putAll (endText left) (page pen (now (out .entry))) ⌝ }
 {
     if left == 0 {
-        return put::byte(out, pen, b'\n');
+        return page::byte(out, pen, b'\n');
     }
     pen
 }
@@ -81,14 +80,14 @@ fn count(out: &mut [u8], pen: Pen, k: usize, rings: u32) -> Pen
     if rings == 0 {
         return pen;
     }
-    let length = put::named(out, pen, b"count ", k);
-    let number = put::named(out, length, b" ", rings as usize);
-    put::byte(out, number, b'\n')
+    let length = page::named(out, pen, b"count ", k);
+    let number = page::named(out, length, b" ", rings as usize);
+    page::byte(out, number, b'\n')
 }
 
 pub fn total(out: &mut [u8], pen: Pen, rings: u32) -> Pen
     ensures { λ r. ⌜ page r (now (out .exit)) ≡ putAll (totalText rings) (page pen (now (out .entry))) ⌝ }
 {
-    let number = put::named(out, pen, b"total ", rings as usize);
-    put::byte(out, number, b'\n')
+    let number = page::named(out, pen, b"total ", rings as usize);
+    page::byte(out, number, b'\n')
 }

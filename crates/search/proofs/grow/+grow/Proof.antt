@@ -9,20 +9,20 @@ use borrow.Fn.Kinds.{In}
 use borrow.Fn.PlainCycle.{Measures, is, falls, and}
 use Rattle.network.specs.Maxima.{places}
 use Rattle.census.specs.Census.{plain}
-use Rattle.search.specs.State.{state, noteAll, Fits}
+use Rattle.notes.specs.Noting.{state, noteAll, Fits}
 use Rattle.paths.specs.Turn.{mayFollow}
 use Rattle.paths.specs.Search.{gatherBelow, branch}
 use Rattle.search.proofs.Ahead.{hint-kept, hint-grown, looks-kept}
 use Rattle.search.proofs.Paths.{given-of, given-whole, given-kept, grows-kept, grows-on, grown-kept, grown-path}
 use Rattle.search.proofs.Rows.{turn-no, turn-yes, extend-some, whole-result, in-row, ends-of, row-done, goes-is}
-use Rattle.search.proofs.Notes.{all-over}
+use Rattle.notes.proofs.Notes.{all-over}
 use Rattle.search.proofs.grow.+grow.{statement}
 use Rattle.search.proofs.grow.+grow.Tie.{close}
 use Rattle.search.proofs.grow.grow.Reads as grow
 use Rattle.search.proofs.grow.grow.Kinds as grow-kinds
 use Rattle.search.proofs.grow.+grow.Lts-grow as grow-lts
 use Rattle.search.proofs.pairs.atom_at.Reads as atom-at-reads
-use Rattle.search.proofs.note.complete.Reads as complete-reads
+use Rattle.search.proofs.grow.complete.Reads as complete-reads
 use Rattle.search.proofs.turn.may_follow.Reads as may-follow-reads
 use Rattle.search.proofs.grow.place_at.Reads as place-at-reads
 use Rattle.search.proofs.pairs.wide.Reads as wide-reads

@@ -9,9 +9,9 @@ use Rattle.ring.specs.Maxima.{ringMost}
 use Rattle.paths.specs.Search.{gatherBelow, ringsUpTo, countsUpTo, lengthsUpTo}
 use Rattle.paths.specs.Turn.{mayFollow}
 use Rattle.census.specs.Census.{plain}
-use Rattle.search.specs.State.{state, noteAll, none, Fits}
-use Rattle.search.proofs.Notes.{turn, turned}
-use Rattle.search.proofs.Noted.{rings-grew, counts-turn, lengths-turn, lengths-bounded}
+use Rattle.notes.specs.Noting.{state, noteAll, none, Fits}
+use Rattle.notes.proofs.Noted.{rings-grew}
+use Rattle.search.proofs.Steps.{turn, turned, counts-turn, lengths-turn, lengths-bounded}
 use Rattle.search.proofs.grow.each_length.Statement.{statement}
 use Rattle.search.proofs.grow.each_length.Tie as tie
 

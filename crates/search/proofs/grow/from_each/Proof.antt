@@ -5,12 +5,12 @@ use lib.ListN.{length, length-set}
 use borrow.Author.Needs.{needs}
 use Rattle.ring.specs.Maxima.{ringMost}
 use Rattle.census.specs.Census.{plain}
-use Rattle.search.specs.State.{state, noteAll, Fits}
+use Rattle.notes.specs.Noting.{state, noteAll, Fits}
 use Rattle.paths.specs.Turn.{mayFollow}
 use Rattle.paths.specs.Search.{gatherBelow, ringsFrom, ringsOf}
 use Rattle.search.proofs.Ahead.{hint-kept, hint-first}
 use Rattle.search.proofs.Paths.{first-take, first-path}
-use Rattle.search.proofs.Notes.{turn, turned}
+use Rattle.search.proofs.Steps.{turn, turned}
 use Rattle.search.proofs.grow.from_each.Statement.{statement}
 use Rattle.search.proofs.grow.from_each.Tie as tie
 

@@ -4,7 +4,7 @@ use native.Mathlib.Omega.{arith}
 use borrow.Author.Needs.{needs}
 use lib.ListN.{length, drop}
 use Rattle.ring.specs.Maxima.{ringMost}
-use Rattle.text.specs.Page.{page, putAll}
+use Rattle.page.specs.Page.{page, putAll}
 use Rattle.text.specs.Lines.{countsText}
 use Rattle.text.proofs.Texts.{counts-next, counts-done}
 use Rattle.text.proofs.lines.counts.Statement.{statement}

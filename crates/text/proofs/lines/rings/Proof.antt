@@ -3,7 +3,7 @@ use mathlib.Core.Path.{_≡_, refl}
 use native.Mathlib.Omega.{arith}
 use borrow.Author.Needs.{needs}
 use lib.ListN.{length, drop}
-use Rattle.text.specs.Page.{page, putAll}
+use Rattle.page.specs.Page.{page, putAll}
 use Rattle.text.specs.Lines.{wordsText}
 use Rattle.text.proofs.Texts.{words-next, words-done}
 use Rattle.text.proofs.lines.rings.Statement.{statement}

@@ -1,0 +1,2 @@
+-- Noting the rings that are found.
+pub mod Noting

@@ -1,0 +1,3 @@
+-- Laws of writing on a page, and of numbers.
+pub mod Pages
+pub mod Numbers

@@ -1,0 +1,2 @@
+-- The lengths of parts of arrays, for the programs that print them (Parts).
+pub mod Parts
