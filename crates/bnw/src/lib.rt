@@ -1,9 +1,12 @@
 // The network file: its numbers, and what comes of reading and writing one.
 //
 // A file is the mark "BNW", the version, the counts of atoms and of bonds, then the bonds in ascending order. What it means is in
-// specs/, that it returns in proofs/; the crates bnw_reader and bnw_writer have the code.
+// specs/, that it returns in proofs/; the crates bnw_reader and bnw_writer have the rest of the code.
 use network::Answer;
 use network::Network;
+ghost use mathlib.Core.Path.{_≡_};
+ghost use Prim.Native.Nat.{_+_, _*_};
+ghost use Rattle.bnw.specs.Reading.{signed};
 
 // The bytes before the bonds, and of a bond.
 pub const HEAD: usize = 9;
@@ -37,4 +40,21 @@ pub struct FileRead {
 pub struct FileWritten {
     pub answer: Answer,
     pub bytes: usize,
+}
+
+// The 16-bit number of two bytes, little-endian.
+pub fn of_bytes(low: u8, high: u8) -> u16
+    ensures { λ r. ⌜ r ≡ low + 256 * high ⌝ }
+{
+    low as u16 + 256 * (high as u16)
+}
+
+// A 16-bit number in two's complement.
+pub fn signed(v: u16) -> i32
+    ensures { λ r. ⌜ r ≡ signed v ⌝ }
+{
+    if v < 32768 {
+        return v as i32;
+    }
+    v as i32 - 65536
 }

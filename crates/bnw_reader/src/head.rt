@@ -60,10 +60,10 @@ pub fn value_of(file: &[u8], code: u8) -> i32
     ensures { λ r. ⌜ r ≡ readValue (now (file .entry)) code ⌝ }
 {
     if code == 22 {
-        return fields::signed(fields::field(file, bnw::ATOMS_AT));
+        return bnw::signed(fields::field(file, bnw::ATOMS_AT) as u16);
     }
     if code == 23 {
-        return fields::signed(fields::field(file, bnw::BONDS_AT));
+        return bnw::signed(fields::field(file, bnw::BONDS_AT) as u16);
     }
     0
 }

@@ -10,7 +10,7 @@ ghost use Rattle.bnw.specs.Writing.{WriteOutcome};
 pub fn write(n: usize, table: &[u16], file: &mut [u8]) -> FileWritten
     ensures { λ r. ⌜ WriteOutcome n (now (table .entry)) (now (file .entry)) (now (file .exit)) r ⌝ }
 {
-    let verdict = network::validate(n, table);
+    let verdict = validator::validate(n, table);
     if verdict.code != 0 {
         return FileWritten {
             answer: verdict,

@@ -13,7 +13,7 @@ ghost use Rattle.demands.specs.Calls.{ValidateMet, DistancesMet, CandidateMet, 
 pub fn validate(n: usize, table: &[u16]) -> Answer
     ensures { λ r. ⌜ ValidateMet n (now (table .entry)) r ⌝ }
 {
-    network::validate(n, table)
+    validator::validate(n, table)
 }
 
 // The distance buffer becomes the distance table.

@@ -14,7 +14,7 @@ use Rattle.graph.proofs.Readings.{reading-self, reading-trans, reading-ring, re
 use Rattle.graph.proofs.Writings.{writing-unique}
 use Rattle.network.specs.declared.Answer.{Answer}
 use Rattle.network.specs.Network.{Bonded}
-use Rattle.network.proofs.Bonds.{bonded-back}
+use Rattle.network.proofs.Bonds.{bonded-back, ring-atoms}
 use Rattle.distance.specs.Distances.{DistanceTable}
 use Rattle.distance.specs.Outcome.{DistancesOutcome}
 use Rattle.distance.proofs.Outcomes.{accepted-of-distance, table-unique}
@@ -23,11 +23,11 @@ use Rattle.candidate.specs.declared.Shortest.the-variants.{Yes, No, Refu
 use Rattle.candidate.specs.declared.Tested.{Tested}
 use Rattle.ring.specs.Maxima.{ringLeast, ringMost}
 use Rattle.ring.specs.Writes.{padded, WritingPadded}
-use Rattle.ring.specs.CandidateVerdict.{candidateVerdict, AtomsBelow}
+use Rattle.candidate_faults.specs.CandidateVerdict.{candidateVerdict, AtomsBelow}
 use Rattle.candidate.specs.ShorterPairs.{shortAfter, shortPlace}
 use Rattle.candidate.specs.CandidateOutcome.{Values, values, Shorter, FirstPair, RightValues, CandidateOutcome}
-use Rattle.ring.specs.RightCandidate.{RightCandidate}
-use Rattle.ring.proofs.CandidateVerdicts.{accepted-exactly, ring-atoms}
+use Rattle.candidate_faults.specs.RightCandidate.{RightCandidate}
+use Rattle.candidate_faults.proofs.CandidateVerdicts.{accepted-exactly}
 use Rattle.candidate.proofs.Values.{number, alike, values-tell}
 use Rattle.candidate.proofs.ShorterPairs.{yes-shortest, no-pair}
 
@@ -49,7 +49,8 @@ module _ (n : ℕ) (t r before : List ℕ) (a : Answer) (e : a ≡ candidateVerd
     passed = accepted-exactly n t r before .0 (ap code (sym e) ∙ z)
 
     pub passed-atoms : AtomsBelow n r
-    passed-atoms = ring-atoms n t (passed .network) r (passed .ring) (passed .most)
+    unfolding AtomsBelow
+    passed-atoms = ring-atoms n t (passed .network) r (passed .ring)
 
     module _ (after : List ℕ) (b : Answer) (o : DistancesOutcome n t before after b) where
       pub filled-table : DistanceTable n t after

@@ -18,10 +18,10 @@ use Rattle.network.specs.Network.{Bonded, IsNetwork}
 use Rattle.network.proofs.Bonds.{bonded-back}
 use Rattle.distance.proofs.Outcomes.{square}
 use Rattle.distance.specs.Distances.{noPath, distance, DistanceTable}
-use Rattle.ring.specs.CandidateVerdict.{AtomsBelow}
+use Rattle.candidate_faults.specs.CandidateVerdict.{AtomsBelow}
 use Rattle.candidate.specs.ShorterPairs.{short, shortAfter, shortPlace}
 use Rattle.candidate.specs.CandidateOutcome.{Shorter, FirstPair}
-use Rattle.ring.proofs.Firsts.{First, first-of}
+use Rattle.candidate_faults.proofs.Firsts.{First, first-of}
 
 module _ (n : ℕ) (t d : List ℕ) (D : DistanceTable n t d) (r : List ℕ) (R : Ring (Bonded t) 0 r) (below : AtomsBelow n r) where
   -- the entry of a pair is its distance: there is a path round the ring

@@ -22,7 +22,7 @@ use Rattle.candidate.specs.declared.Shortest.the-variants.{Yes, No, Refu
 use Rattle.candidate.specs.declared.Tested.{Tested}
 use Rattle.ring.specs.Maxima.{ringMost}
 use Rattle.ring.specs.Writes.{WritingPadded}
-use Rattle.ring.specs.CandidateVerdict.{candidateVerdict}
+use Rattle.candidate_faults.specs.CandidateVerdict.{candidateVerdict}
 
 pub record Values : Type 0 where
   pub number : ℕ

@@ -10,7 +10,7 @@ use lib.Dec.{ltb}
 use lib.ListN.{length, getD}
 use Rattle.graph.specs.Graph.{around}
 use Rattle.distance.specs.Distances.{distance}
-use Rattle.ring.specs.Firsts.{firstOf}
+use Rattle.candidate_faults.specs.Firsts.{firstOf}
 
 abbrev pub short : ℕ → List ℕ → List ℕ → ℕ → ℕ → Bool
 short n d r i j = ltb (distance d n (getD r i 0) (getD r j 0)) (around (length r) (j - i))

@@ -24,7 +24,7 @@ pub struct Tested {
 pub fn test(n: usize, table: &[u16], ring: &[u16], dist: &mut [u8]) -> Tested
     ensures { λ r. ⌜ CandidateOutcome n (now (table .entry)) (now (ring .entry)) (now (dist .entry)) (now (dist .exit)) r ⌝ }
 {
-    let found = ring::faults::faults_of(n, table, ring, dist);
+    let found = candidate_faults::faults_of(n, table, ring, dist);
     if found.code != 0 {
         return Tested {
             answer: found,

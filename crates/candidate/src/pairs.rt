@@ -5,7 +5,7 @@ ghost use Prim.Native.Nat.{_+_, _*_, _≤_, _<_};
 ghost use lib.ListN.{length};
 ghost use Rattle.network.specs.Maxima.{atomsMost};
 ghost use Rattle.ring.specs.Maxima.{ringMost};
-ghost use Rattle.ring.specs.CandidateVerdict.{AtomsBelow};
+ghost use Rattle.candidate_faults.specs.CandidateVerdict.{AtomsBelow};
 ghost use Rattle.candidate.specs.ShorterPairs.{short, shortAfter, shortPlace};
 
 // The first place that is nearer to a later one than round the ring, or the length.

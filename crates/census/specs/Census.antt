@@ -42,7 +42,7 @@ use Rattle.network.specs.Verdict.{check, notLong, sizes, faults, accepted}
 use Rattle.distance.specs.Distances.{DistanceTable}
 use Rattle.ring.specs.Maxima.{ringLeast, ringMost, limitDefault, allowanceMost}
 use Rattle.census.specs.declared.Census.{Census}
-use Rattle.census.specs.Averages.{averagesOf, noAverages}
+use Rattle.averages.specs.Averages.{averagesOf, noAverages}
 
 unfoldable pub limitOf : ℕ → ℕ
 limitOf limit = cond (eqb limit 0) limitDefault limit

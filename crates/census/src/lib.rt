@@ -1,7 +1,7 @@
 // What counting and listing answer, and the checks that come before the search.
-pub mod average;
 pub mod checks;
 
+use averages::Averages;
 use network::Answer;
 use ring::Ring;
 ghost use mathlib.Core.Path.{_≡_};
@@ -21,24 +21,12 @@ pub struct Census {
     pub averages: Averages,
 }
 
-pub struct Averages {
-    // Rings per atom.
-    pub per_atom: f64,
-    pub mean: Mean,
-}
-
-// The mean length of the rings.
-pub enum Mean {
-    Of(f64),
-    NoRings,
-}
-
 impl Census {
     // What a refused call says.
     pub fn refused(answer: Answer) -> Census
         ensures { λ r. ⌜ r ≡ noCensus answer ⌝ }
     {
-        let averages = average::no_averages();
+        let averages = averages::no_averages();
         Census {
             answer,
             limit: 0,

@@ -9,7 +9,7 @@ use Rattle.network.specs.Verdict.{verdict}
 use Rattle.network.proofs.Networks.{network-of, verdict-says}
 use Rattle.distance.specs.Outcome.{DistancesOutcome}
 use Rattle.distance.proofs.Outcomes.{distances-says}
-use Rattle.ring.proofs.FirstPlaces.{candidate-says}
+use Rattle.candidate_faults.proofs.FirstPlaces.{candidate-says}
 use Rattle.candidate.specs.declared.Tested.{Tested}
 use Rattle.candidate.specs.CandidateOutcome.{CandidateOutcome}
 use Rattle.census.specs.declared.Census.{Census}

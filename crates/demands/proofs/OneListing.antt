@@ -15,9 +15,9 @@ use Rattle.network.specs.declared.Answer.{Answer}
 use Rattle.network.specs.Network.{Bonded}
 use Rattle.network.specs.Verdict.{accepted}
 use Rattle.census.specs.declared.Census.{Census}
-use Rattle.census.specs.declared.Mean.{Mean}
-use Rattle.census.specs.Averages.{quotient, meanOf}
-use Rattle.census.proofs.MeanValues.{mean-told}
+use Rattle.averages.specs.declared.Mean.{Mean}
+use Rattle.averages.specs.Averages.{quotient, meanOf}
+use Rattle.averages.proofs.MeanValues.{mean-told}
 use Rattle.census.proofs.Settled.{encode-words}
 use Rattle.census.specs.Census.{limitOf, encode, countsBy, countsOf, censusOf}
 use Rattle.demands.specs.Rings.{AcceptedCount, AcceptedListing}

@@ -12,7 +12,7 @@ use Rattle.network.proofs.Chains.{one-accepted, one-check, one-places, one-tabl
 use Rattle.distance.specs.Outcome.{DistancesOutcome}
 use Rattle.distance.proofs.Outcomes.{distances-says, table-unique}
 use Rattle.distance.proofs.Outcomes as distance-proofs
-use Rattle.ring.proofs.FirstPlaces.{candidate-says}
+use Rattle.candidate_faults.proofs.FirstPlaces.{candidate-says}
 use Rattle.candidate.specs.declared.Tested.{Tested}
 use Rattle.candidate.specs.CandidateOutcome.{CandidateOutcome}
 use Rattle.candidate.proofs.Outcomes as candidate

@@ -22,7 +22,7 @@ use Rattle.census.specs.Census.{encode, ListOutcome}
 use Rattle.bnw.specs.declared.FileRead.{FileRead}
 use Rattle.bnw.specs.Reading.{Bytes, ReadOutcome}
 use Rattle.text.specs.Lines.{sizesText, ringText, countsText, totalText, refusalText}
-use Rattle.report.specs.Report.{fileBytes, tableWords, listWords, textBytes, FileText, Stands}
+use Rattle.report.specs.Report.{fileBytes, tableWords, listWords, textBytes, FileText, TextStands}
 use Rattle.demands.specs.Files.{rowsRead}
 
 pub record ListingPrinted (n bonds : ℕ) (l l′ : List ℕ) (c : Census) (text : List ℕ) : Type 0 where
@@ -44,7 +44,7 @@ pub record Printed (file text : List ℕ) : Type 0 where
 
 pub record RespondMet (file out out′ : List ℕ) (bytes : ℕ) : Type 0 where
   pub short : length out < textBytes → (bytes ≡ 0) × (out′ ≡ out)
-  pub printed : textBytes ≤ length out → (text : List ℕ) × Printed file text × Stands text out out′ bytes
+  pub printed : textBytes ≤ length out → (text : List ℕ) × Printed file text × TextStands text out out′ bytes
 
 pub record RespondFixed : Type 0 where
   pub outcome : (file out out′ out″ : List ℕ) (bytes more : ℕ) → RespondMet file out out′ bytes → RespondMet file out out″ more → (bytes ≡ more) × (out′ ≡ out″)

@@ -16,9 +16,9 @@ use Rattle.network.specs.Maxima.{places}
 use Rattle.network.specs.Network.{Bonded}
 use Rattle.network.specs.Chain.{Answers, Check, Sizes, Table, PlaceByPlace, Accepted}
 use Rattle.ring.specs.Maxima.{ringLeast, ringMost, allowanceMost}
-use Rattle.ring.specs.FirstPlaces.{Sized, NotAtom, Repeated, Unbonded}
+use Rattle.candidate_faults.specs.FirstPlaces.{Sized, NotAtom, Repeated, Unbonded}
 use Rattle.census.specs.Census.{limitOf}
-use Rattle.renumber.specs.Names.{BadName}
+use Rattle.names.specs.Names.{BadName}
 use Rattle.bnw.specs.File.{fileOf, bondsOf}
 
 abbrev pub OfRings : List ℕ → ℕ → (List (List ℕ) → Answers) → Answers

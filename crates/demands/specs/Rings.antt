@@ -18,7 +18,7 @@ use Rattle.graph.specs.Counts.{ofLength, lengthsOf, wordsOf}
 use Rattle.network.specs.Network.{Bonded}
 use Rattle.ring.specs.Maxima.{ringMost}
 use Rattle.census.specs.declared.Census.{Census}
-use Rattle.census.specs.Averages.{quotient, meanOf, meanValues}
+use Rattle.averages.specs.Averages.{quotient, meanOf, meanValues}
 use Rattle.census.specs.Census.{limitOf, encode}
 
 -- a cycle of at most `limit` bonds is at its distances round the ring exactly when it stands in the list, once (exactly); nothing else stands there

@@ -13,7 +13,7 @@ use Rattle.network.specs.Maxima.{atomsMost}
 use Rattle.network.specs.Network.{Holds, Bonded, IsNetwork}
 use Rattle.network.proofs.Bonds.{bonded-from, bonded-to}
 use Rattle.distance.specs.Distances.{noPath}
-use Rattle.distance.specs.Levels.{RowOf, level, firstRow, unreached, PassFilled}
+use Rattle.distance.specs.Levels.{DistanceRow, level, firstRow, unreached, PassFilled}
 use Rattle.distance.proofs.Fills.{unreached-start, start-long}
 use Rattle.distance.proofs.Spread.{Spread, From, pass-spreads, pass-gives}
 
@@ -106,7 +106,7 @@ module _ (t : List ℕ) (n s : ℕ) (N : IsNetwork n t) (l : s < n) where
         let at-u = R .near u known (all-have k u known (last .1) same) in
         next-has u w (getD row u 0) (last .2) (at-u .1 .walk) (at-u .0) z (rw same z)
 
-    pub reached-all : new ≡ row → d < n → n ≤ atomsMost → RowOf t n s row
+    pub reached-all : new ≡ row → d < n → n ≤ atomsMost → DistanceRow t n s row
     reached-all same small most y a =
         elim (ℕ-discrete (getD row y 0) noPath) [
           | yes z ↦ inr (z, λ k p. all-have k y a (p .walk) same z)
@@ -147,5 +147,5 @@ module _ (t : List ℕ) (n s d : ℕ) (row new : List ℕ) (r : ℕ) (B : Before
     room = omega (arith, B .room, F .fewer);
   }
 
-  pub before-last : r ≡ 0 → RowOf t n s new
+  pub before-last : r ≡ 0 → DistanceRow t n s new
   before-last z = rw (F .same z) (reached-all t n s (B .net) (B .known) d small row (B .long) (B .reached) (sym passed ∙ F .same z) (omega (arith, B .room)) (B .net .counted .most))

@@ -11,7 +11,7 @@ use borrow.Rule.Slice.PartMut.{putMid, same-len-mid}
 use Rattle.graph.specs.Graph.{Tells}
 use Rattle.network.specs.Network.{Bonded}
 use Rattle.distance.specs.Distances.{noPath, distance}
-use Rattle.distance.specs.Levels.{RowOf}
+use Rattle.distance.specs.Levels.{DistanceRow}
 
 -- the first s rows of a table are right
 abbrev pub Rows : List ℕ → ℕ → ℕ → List ℕ → Type 0
@@ -47,7 +47,7 @@ module _ (n s : ℕ) (dist : List ℕ) (l : s < n) (long : length dist ≡ n * n
         let i : x * n + y < s * n = omega (arith, row-end x n s k) in
         List·getD-append (take (s * n) dist) _ 0 (x * n + y) (rw head i) ∙ getD-take (s * n) dist (x * n + y) 0 i
 
-    pub put-rows : (t : List ℕ) → RowOf t n s row → Rows t n s dist → Rows t n (s + 1) new
+    pub put-rows : (t : List ℕ) → DistanceRow t n s row → Rows t n s dist → Rows t n (s + 1) new
     put-rows t R before x y k m =
         elim (ℕ-discrete x s) [
           | yes e ↦ rw (e, here y m) (R y m)

@@ -1,6 +1,6 @@
 -- How a row of the distance table is found: pass after pass, each atom at d gives d + 1 to its neighbours that have no entry.
 --
---   RowOf t n x row           every entry of the row tells the distance from x, or that there is no path
+--   DistanceRow t n x row     every entry of the row tells the distance from x, or that there is no path
 --   offer e row w             e goes to atom w where it has no entry
 --   give t v e k p row        e goes to the neighbours at the k places of v's row from p on, as far as the first free place
 --   visit t d v row           v gives d + 1 where it is at d
@@ -19,8 +19,8 @@ use Rattle.network.specs.Maxima.{places, free}
 use Rattle.network.specs.Network.{word, Bonded}
 use Rattle.distance.specs.Distances.{noPath}
 
-abbrev pub RowOf : List ℕ → ℕ → ℕ → List ℕ → Type 0
-RowOf t n x row = (y : ℕ) → y < n → Tells (Bonded t) noPath x y (getD row y 0)
+abbrev pub DistanceRow : List ℕ → ℕ → ℕ → List ℕ → Type 0
+DistanceRow t n x row = (y : ℕ) → y < n → Tells (Bonded t) noPath x y (getD row y 0)
 
 unfoldable pub offer : ℕ → List ℕ → ℕ → List ℕ
 offer e row w = cond (eqb (getD row w 0) noPath) (set row w e) row

@@ -20,7 +20,7 @@ pub fn distances(n: usize, table: &[u16], dist: &mut [u8]) -> Answer
     if dist.len() != n * n {
         return Answer::refused(5);
     }
-    let found = network::validate(n, table);
+    let found = validator::validate(n, table);
     if found.code != 0 {
         return found;
     }

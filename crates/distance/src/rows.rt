@@ -7,7 +7,7 @@ ghost use lib.ListN.{length};
 ghost use Rattle.network.specs.Maxima.{places};
 ghost use Rattle.network.specs.Network.{IsNetwork};
 ghost use Rattle.distance.specs.Distances.{noPath, DistanceTable};
-ghost use Rattle.distance.specs.Levels.{RowOf, offer, give, visit, level, firstRow, PassFilled};
+ghost use Rattle.distance.specs.Levels.{DistanceRow, offer, give, visit, level, firstRow, PassFilled};
 
 // The distances from every atom.
 pub fn fill(n: usize, table: &[u16], dist: &mut [u8])
@@ -26,7 +26,7 @@ pub fn fill(n: usize, table: &[u16], dist: &mut [u8])
 // The distances from s: passes until one fills nothing.
 fn fill_row(table: &[u16], row: &mut [u8], s: usize)
     requires { ⌜ (s < length (now row)) × IsNetwork (length (now row)) (now table) ⌝ }
-    ensures { λ _. ⌜ RowOf (now (table .entry)) (length (now (row .entry))) s (now (row .exit)) ⌝ }
+    ensures { λ _. ⌜ DistanceRow (now (table .entry)) (length (now (row .entry))) s (now (row .exit)) ⌝ }
 {
     start_row(row, s);
     let mut d: u8 = 0;

@@ -12,10 +12,10 @@ use Rattle.candidate.specs.declared.Shortest.the-variants.{Yes, No, Refused}
 use Rattle.candidate.specs.declared.Tested.{Tested}
 use Rattle.candidate.specs.CandidateOutcome.{values, RightValues, CandidateOutcome}
 use Rattle.candidate.proofs.Values.{values-tell}
-use Rattle.census.specs.declared.Mean.{Mean}
-use Rattle.census.specs.declared.Mean.the-variants.{Of, NoRings}
+use Rattle.averages.specs.declared.Mean.{Mean}
+use Rattle.averages.specs.declared.Mean.the-variants.{Of, NoRings}
 use Rattle.census.specs.declared.Census.{Census}
-use Rattle.census.specs.Averages.{meanValues}
+use Rattle.averages.specs.Averages.{meanValues}
 use Rattle.flat.specs.declared.FlatCensus.{FlatCensus}
 use Rattle.flat.specs.declared.FlatCandidate.{FlatCandidate}
 use Rattle.flat.specs.Flat.{flatCensus, flatCandidate}

@@ -8,7 +8,7 @@ use lib.Dec.{eqb}
 use Rattle.candidate.specs.declared.Tested.{Tested}
 use Rattle.candidate.specs.CandidateOutcome.{values}
 use Rattle.census.specs.declared.Census.{Census}
-use Rattle.census.specs.Averages.{meanValues}
+use Rattle.averages.specs.Averages.{meanValues}
 use Rattle.flat.specs.declared.FlatCensus.{FlatCensus}
 use Rattle.flat.specs.declared.FlatCandidate.{FlatCandidate}
 

@@ -1,14 +1,14 @@
 // The answers of the calls as C has them.
+use averages::Mean;
 use candidate::Shortest;
 use candidate::Tested;
 use census::Census;
-use census::Mean;
 use network::Answer;
 use ring::Ring;
 ghost use mathlib.Core.Path.{_≡_};
 ghost use lib.Dec.{eqb};
 ghost use Rattle.candidate.specs.CandidateOutcome.{values};
-ghost use Rattle.census.specs.Averages.{meanValues};
+ghost use Rattle.averages.specs.Averages.{meanValues};
 ghost use Rattle.flat.specs.Flat.{flatCensus, flatCandidate};
 
 // What counting and listing answer.

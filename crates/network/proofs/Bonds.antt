@@ -1,4 +1,4 @@
--- Bonds of an accepted network are answered, join two atoms, are the bonds of a finite graph, and determine the table.
+-- Bonds of an accepted network are answered, join two of its atoms, are the bonds of a finite graph, and determine the table.
 use mathlib.Core.Path.{_≡_, refl, sym, _∙_, ap, subst}
 use mathlib.Core.Logic.{_↔_}
 use mathlib.Core.Bool.{not}
@@ -11,6 +11,7 @@ use lib.ListN.{length, getD, take, drop, length-take, length-drop}
 use lib.Seq.{getD-take, getD-drop, ext-getD}
 use Rattle.graph.specs.Lists.{_∈_}
 use Rattle.graph.proofs.Lists.{keep-of, keep-has, keep-ascends, place-of, at-place}
+use Rattle.graph.specs.Graph.{Ring}
 use Rattle.graph.specs.Finite.{BondedBy, FiniteNetwork}
 use Rattle.network.specs.Maxima.{places, free}
 use Rattle.network.specs.Network.{word, Holds, Bonded, IsNetwork, neighbours}
@@ -55,6 +56,14 @@ module _ (n : ℕ) (t : List ℕ) (N : IsNetwork n t) where
 
   pub bonded-to : (x y : ℕ) → Bonded t x y → y < n
   bonded-to x y b = subst (λ w. w < n) (b .stands) (N .below x (b .place) (bonded-from x y b) (b .in-row) (holds x y b))
+
+  -- the atoms of a ring are atoms of the network: each is bonded to the next, the last to the first
+  pub ring-atoms : (r : List ℕ) → Ring (Bonded t) 0 r → (i : ℕ) → i < length r → getD r i 0 < n
+  ring-atoms r R i l =
+      elim (decLt (suc i) (length r)) [
+        | yes m ↦ bonded-from _ _ (R .next i m)
+        | no m ↦ (let e : i ≡ length r - 1 = omega arith in rw e (bonded-from _ _ (R .closes)))
+      ]
 
   -- a bond is answered
   pub bonded-back : (x y : ℕ) → Bonded t x y → Bonded t y x

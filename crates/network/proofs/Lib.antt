@@ -1,6 +1,5 @@
 -- Laws of bond tables and verdicts.
 pub mod PlaceFaults
-pub mod Scans
 pub mod Verdicts
 pub mod FirstFaults
 pub mod TableFaults

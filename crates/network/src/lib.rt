@@ -1,11 +1,10 @@
-// The network type with its maxima, the answer that every call gives, and the validator of bond tables.
+// The network type with its maxima, the answer that every call gives, and the first check of every call. What a bond table is, and
+// which of its faults comes first, is in specs/; the crate validator has the code.
 //
 // A bond table has a row of 8 places for each atom; a place holds a neighbour or is free.
-mod faults;
-
 ghost use mathlib.Core.Path.{_≡_};
 ghost use Rattle.network.specs.Maxima.{atomsMost, places, free};
-ghost use Rattle.network.specs.Verdict.{accepted, refusal, atomsOrNone, sizes, verdict};
+ghost use Rattle.network.specs.Verdict.{accepted, refusal, atomsOrNone, sizes};
 
 // A network of so many atoms.
 pub struct Network {
@@ -71,17 +70,6 @@ impl Answer {
             place: 0,
         }
     }
-}
-
-// The first fault of a bond table of n rows: refusals 1, 4, and 7 to 11.
-pub fn validate(n: usize, table: &[u16]) -> Answer
-    ensures { λ r. ⌜ r ≡ verdict n (now (table .entry)) ⌝ }
-{
-    let sized = sizes(n, table);
-    if sized.code != 0 {
-        return sized;
-    }
-    faults::faults_in(n, table)
 }
 
 // The number of atoms and the length of a bond table, which every call checks before it reads a word: refusals 1 and 4.

@@ -13,7 +13,7 @@ use Rattle.graph.proofs.Readings.{reading-map}
 use Rattle.network.specs.declared.Answer.{Answer}
 use Rattle.network.specs.Network.{Bonded, IsNetwork}
 use Rattle.network.proofs.Bonds.{bonded-from, bonded-to, bonded-back}
-use Rattle.renumber.specs.Names.{name, OneToOne}
+use Rattle.names.specs.Names.{name, OneToOne}
 use Rattle.renumber.specs.Outcome.{Renumbered, RenumberOutcome}
 use Rattle.renumber.specs.Carried.{RingsRenumbered, homeNames}
 use Rattle.renumber.proofs.Outcomes.{accepts}

@@ -12,10 +12,10 @@ use Rattle.network.specs.declared.Answer.{Answer}
 use Rattle.network.specs.Maxima.{places}
 use Rattle.network.specs.Network.{Bonded, IsNetwork}
 use Rattle.network.proofs.Bonds.{bonded-from, bonded-to, network-unique}
-use Rattle.renumber.specs.Names.{name, OneToOne}
+use Rattle.names.specs.Names.{name, OneToOne}
 use Rattle.renumber.specs.Outcome.{Renumbered, RenumberOutcome}
 use Rattle.renumber.specs.Carried.{Inverse, atomOf, homeNames}
-use Rattle.renumber.proofs.Naming.{same-name, named}
+use Rattle.names.proofs.Naming.{same-name, named}
 use Rattle.renumber.proofs.Outcomes.{accepts}
 
 atom-of : (names : List ℕ) (w k x : ℕ) → x < k → name names x ≡ w → (atomOf names w k < k) × (name names (atomOf names w k) ≡ w)

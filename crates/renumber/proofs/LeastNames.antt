@@ -10,7 +10,7 @@ use lib.ListN.{length, getD, set}
 use lib.Seq.{getD-set-same, getD-set-other}
 use Rattle.network.specs.Maxima.{atomsMost, places, free}
 use Rattle.network.specs.Network.{word, Holds, IsNetwork}
-use Rattle.renumber.specs.Names.{name, OneToOne}
+use Rattle.names.specs.Names.{name, OneToOne}
 use Rattle.renumber.specs.Rows.{Offered, Least, above, RowBegun}
 
 -- each way through the tests

@@ -10,11 +10,11 @@ use Rattle.graph.proofs.Pigeons.{pigeons}
 use Rattle.network.specs.Maxima.{places, free}
 use Rattle.network.specs.Network.{word, Holds, Bonded, IsNetwork}
 use Rattle.network.proofs.Bonds.{bonded-to, bonded-back, bonded-other}
-use Rattle.renumber.specs.Names.{name, OneToOne}
+use Rattle.names.specs.Names.{name, OneToOne}
 use Rattle.renumber.specs.Rows.{above, RowBegun}
 use Rattle.renumber.specs.Outcome.{Renumbered}
 use Rattle.renumber.proofs.LeastNames.{in-table}
-use Rattle.renumber.proofs.Naming.{same-name, named}
+use Rattle.names.proofs.Naming.{same-name, named}
 
 above-under : (row : ℕ → ℕ) (k v : ℕ) → ((p : ℕ) → p < k → row p < v) → above row k ≤ v
 above-under row zero v f = omega arith

@@ -6,9 +6,9 @@ use native.Mathlib.Decide.{ℕ-discrete}
 use Rattle.network.specs.declared.Answer.{Answer}
 use Rattle.network.specs.Network.{Bonded}
 use Rattle.network.proofs.Bonds.{bonded-from, bonded-to, network-unique}
-use Rattle.renumber.specs.Names.{OneToOne}
+use Rattle.names.specs.Names.{OneToOne}
 use Rattle.renumber.specs.Outcome.{Renumbered, RenumberOutcome}
-use Rattle.renumber.proofs.Naming.{named}
+use Rattle.names.proofs.Naming.{named}
 use Rattle.renumber.proofs.Outcomes.{accepts}
 
 module _ (n : ℕ) (t names : List ℕ) (O : OneToOne n names) where

@@ -15,9 +15,9 @@ use Rattle.network.specs.Chain.{Check, Sizes, Table, PlaceByPlace, Accepted}
 use Rattle.network.proofs.Verdicts.{not-long, long, sized}
 use Rattle.network.proofs.Chains.{check-says, check-passed, sizes-say, sizes-passed, table-says, table-passed}
 use Rattle.network.proofs.Networks.{network-of, verdict-kept, verdict-passed, right-atoms, right-table, wrong-sizes}
-use Rattle.renumber.specs.Names.{OneToOne, BadName, nameFaults}
+use Rattle.names.specs.Names.{OneToOne, BadName, nameFaults}
 use Rattle.renumber.specs.Outcome.{renumberVerdict, Renumbered, RenumberOutcome}
-use Rattle.renumber.proofs.NameFaults.{names-say, one-to-one-of, accepted-names}
+use Rattle.names.proofs.NameFaults.{names-say, one-to-one-of, accepted-names}
 
 abbrev code : Answer → ℕ
 code a = a .code

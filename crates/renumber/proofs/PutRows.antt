@@ -10,7 +10,7 @@ use lib.Seq.{length-take-le, getD-take, getD-drop, getD-append-add}
 use borrow.Rule.Slice.PartMut.{putMid, midOf, mid-len, same-len-mid, drop-put}
 use Rattle.network.specs.Maxima.{places}
 use Rattle.network.specs.Network.{word}
-use Rattle.renumber.specs.Names.{name, OneToOne}
+use Rattle.names.specs.Names.{name, OneToOne}
 use Rattle.renumber.specs.Rows.{RowBegun}
 use Rattle.renumber.proofs.LeastNames.{filled-same}
 

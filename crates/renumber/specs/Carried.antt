@@ -15,7 +15,7 @@ use Rattle.graph.specs.Lists.{numbersFrom}
 use Rattle.graph.specs.Writing.{Reading, OneWriting}
 use Rattle.graph.specs.Counts.{ofLength, lengthsOf, wordsOf}
 use Rattle.graph.specs.Carried.{CarriedTo}
-use Rattle.renumber.specs.Names.{name}
+use Rattle.names.specs.Names.{name}
 
 pub record RingsRenumbered (names : List ℕ) (xs ys : List (List ℕ)) : Type 0 where
   -- the rings of ys are exactly those of xs under their new names, one for one, and as many

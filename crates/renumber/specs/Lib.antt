@@ -1,5 +1,4 @@
--- What a renumbering is, and what comes of one. Read Names, Outcome and Carried; Rows is how the rows are made.
-pub mod Names
+-- What comes of a renumbering. Read Outcome and Carried; Rows is how the rows are made.
 pub mod Rows
 pub mod Outcome
 pub mod Carried

@@ -13,7 +13,7 @@ use Rattle.network.specs.declared.Answer.{Answer}
 use Rattle.network.specs.Maxima.{places}
 use Rattle.network.specs.Network.{Bonded, IsNetwork}
 use Rattle.network.specs.Verdict.{check, notLong, sizes, faults, accepted}
-use Rattle.renumber.specs.Names.{name, nameFaults}
+use Rattle.names.specs.Names.{name, nameFaults}
 
 unfoldable pub renumberVerdict : ℕ → List ℕ → List ℕ → List ℕ → Answer
 renumberVerdict n t names before =

@@ -10,7 +10,7 @@ use mathlib.Core.List.{List}
 use Prim.Native.Nat.{ℕ, zero, suc, _≤_, _<_}
 use Rattle.network.specs.Maxima.{places, free}
 use Rattle.network.specs.Network.{word, Holds}
-use Rattle.renumber.specs.Names.{name}
+use Rattle.names.specs.Names.{name}
 
 pub record Offered (names : List ℕ) (low w least r : ℕ) : Type 0 where
   pub one : (r ≡ least) ⊎ ((w ≡ free → ⊥) × (name names w ≡ r) × (low ≤ r))

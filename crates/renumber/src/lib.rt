@@ -1,5 +1,4 @@
 // Renumbering: the table of the same network under new numbers of its atoms.
-mod names;
 mod rows;
 
 use network::Answer;
@@ -20,7 +19,7 @@ pub fn renumber(n: usize, table: &[u16], names: &[u16], renamed: &mut [u16]) -> 
     if renamed.len() != Network::PLACES * n {
         return Answer::refused(6);
     }
-    let found = network::validate(n, table);
+    let found = validator::validate(n, table);
     if found.code != 0 {
         return found;
     }

@@ -5,7 +5,7 @@ ghost use Prim.Native.Nat.{_*_, _<_};
 ghost use lib.ListN.{length, getD};
 ghost use Rattle.network.specs.Maxima.{places, free};
 ghost use Rattle.network.specs.Network.{IsNetwork};
-ghost use Rattle.renumber.specs.Names.{OneToOne};
+ghost use Rattle.names.specs.Names.{OneToOne};
 ghost use Rattle.renumber.specs.Rows.{Offered, Least, RowBegun};
 ghost use Rattle.renumber.specs.Outcome.{Renumbered};
 

@@ -13,9 +13,8 @@ use Rattle.graph.specs.Listing.{RingListing}
 use Rattle.graph.proofs.Lists.{place-of, length-made}
 use Rattle.network.specs.declared.Answer.{Answer}
 use Rattle.network.specs.Network.{Bonded, IsNetwork}
+use Rattle.network.proofs.Bonds.{ring-atoms}
 use Rattle.ring.specs.Maxima.{ringMost, allowanceMost}
-use Rattle.ring.specs.CandidateVerdict.{AtomsBelow}
-use Rattle.ring.proofs.CandidateVerdicts.{ring-atoms}
 use Rattle.census.specs.declared.Census.{Census}
 use Rattle.census.specs.Census.{limitOf, encode, countsBy, countsOf, censusOf, afterList, ListOutcome}
 use Rattle.census.proofs.Passed.{limit-default}
@@ -48,7 +47,6 @@ counts-length-all rings = length-made (λ k. ofLength k rings) (ringMost + 1)
 module _ (n : ℕ) (t : List ℕ) (N : IsNetwork n t) (rings : List (List ℕ)) (listing : RingListing (Bonded t) (limitOf 0) rings) where
   -- the line of a listed ring takes at most five bytes for each of its words
   short : (r : List ℕ) → r ∈ rings → Short r
-  unfolding AtomsBelow
   short r m =
       let L = listing .sound r m in
       let few : length r ≤ ringMost = omega (arith, L .within, limit-default 0 refl) in
@@ -57,7 +55,7 @@ module _ (n : ℕ) (t : List ℕ) (N : IsNetwork n t) (rings : List (List ℕ)) 
         few = omega arith;
         atoms = λ a h.
             let p = place-of 0 h in
-            omega (arith, p .2, ring-atoms n t N r (L .shortest .ring) few (p .0) (p .1), N .counted .most);
+            omega (arith, p .2, ring-atoms n t N r (L .shortest .ring) (p .0) (p .1), N .counted .most);
       }
 
   -- the lines of a listing that fits its list buffer

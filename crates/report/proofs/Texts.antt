@@ -25,16 +25,16 @@ use Rattle.page.specs.Page.{Page, page, firstPen, putAll}
 use Rattle.page.proofs.Pages.{text-fits}
 use Rattle.text.specs.Lines.{ringText, wordsText, sizesText, countsText, totalText, listingText, refusalText}
 use Rattle.text.proofs.Words.{rings-text}
-use Rattle.report.specs.Report.{tableWords, listWords, textBytes, ringsText, ListingText, FileText, Stands, ListsText, Responds}
+use Rattle.report.specs.Report.{tableWords, listWords, textBytes, ringsText, ListingText, FileText, TextStands, ListsText, Responds}
 use Rattle.report.proofs.Fits.{refusal-fits, listing-text-fits}
 
 -- a text that is written from the first byte on stands there, where it fits
-stood : (text before after : List ℕ) (p : Pen) → page p after ≡ putAll text (page firstPen before) → length text ≤ length before → Stands text before after (p .at)
+stood : (text before after : List ℕ) (p : Pen) → page p after ≡ putAll text (page firstPen before) → length text ≤ length before → TextStands text before after (p .at)
 stood text before after p h fits =
     let e = h ∙ text-fits text before fits in
     record { long = ap (λ (s : Page). s .pen .at) e; front = ap (λ (s : Page). s .bytes) e }
 
-pub refusal-stands : (a : Answer) (before after : List ℕ) (p : Pen) → textBytes ≤ length before → page p after ≡ putAll (refusalText a) (page firstPen before) → Stands (refusalText a) before after (p .at)
+pub refusal-stands : (a : Answer) (before after : List ℕ) (p : Pen) → textBytes ≤ length before → page p after ≡ putAll (refusalText a) (page firstPen before) → TextStands (refusalText a) before after (p .at)
 refusal-stands a before after p room h = stood (refusalText a) before after p h (refusal-fits a before room)
 
 -- a ring's line for each ring of the list
@@ -96,7 +96,7 @@ module _ (n bonds : ℕ) (t d d′ l l′ : List ℕ) (c : Census) (N : IsNetwor
       }
 
   module _ (before after : List ℕ) where
-    pub lists-refusal : (bytes : ℕ) → (code c ≡ 0 → ⊥) → Stands (refusalText (c .answer)) before after bytes → ListsText n bonds t before after bytes
+    pub lists-refusal : (bytes : ℕ) → (code c ≡ 0 → ⊥) → TextStands (refusalText (c .answer)) before after bytes → ListsText n bonds t before after bytes
     lists-refusal bytes z S = record { text = refusalText (c .answer); lists = text-refused z; stands = S }
 
     pub lists-rings : (p : Pen) → code c ≡ 0 → textBytes ≤ length before
@@ -136,10 +136,10 @@ module _ (file table table′ : List ℕ) (r : FileRead) (R : ReadOutcome file t
       }
 
   module _ (before after : List ℕ) (room : textBytes ≤ length before) where
-    responds : (text : List ℕ) (bytes : ℕ) → FileText file text → Stands text before after bytes → Responds file before after bytes
+    responds : (text : List ℕ) (bytes : ℕ) → FileText file text → TextStands text before after bytes → Responds file before after bytes
     responds text bytes F S = record { short = λ h. absurd (omega arith); written = λ _. (text, F, S) }
 
-    pub responds-refusal : (bytes : ℕ) → (r .answer .code ≡ 0 → ⊥) → Stands (refusalText (r .answer)) before after bytes → Responds file before after bytes
+    pub responds-refusal : (bytes : ℕ) → (r .answer .code ≡ 0 → ⊥) → TextStands (refusalText (r .answer)) before after bytes → Responds file before after bytes
     responds-refusal bytes z = responds (refusalText (r .answer)) bytes (file-refused z)
 
     pub responds-network : (bytes : ℕ) → r .answer .code ≡ 0 → ListsText (r .atoms) (r .bonds) (take (places * r .atoms) table′) before after bytes → Responds file before after bytes

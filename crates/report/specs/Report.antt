@@ -9,7 +9,7 @@
 --   ListingText n bonds t text    the text of a network: of its listing at limit 0 with the greatest allowance, or of refusal 12 or 13
 --   NetworkText file text         the text of the network whose file it is
 --   FileText file text            the text of a file: of the reader's refusal, or of the network
---   Stands text before after bytes    the text stands at the front of the lent bytes, whose rest stays, and its length is answered
+--   TextStands text before after bytes    the text stands at the front of the lent bytes, whose rest stays, and its length is answered
 --   ListsText n bonds t before after bytes    the text of a network stands there
 --   Responds file before after bytes  what comes of responding to a file: its text; where fewer than `textBytes` are lent, nothing
 use mathlib.Core.Path.{_≡_}
@@ -64,15 +64,15 @@ pub record FileText (file text : List ℕ) : Type 0 where
   pub refused : (readVerdict file tableWords .code ≡ 0 → ⊥) → text ≡ refusalText (readVerdict file tableWords)
   pub accepted : readVerdict file tableWords .code ≡ 0 → NetworkText file text
 
-pub record Stands (text before after : List ℕ) (bytes : ℕ) : Type 0 where
+pub record TextStands (text before after : List ℕ) (bytes : ℕ) : Type 0 where
   pub long : bytes ≡ length text
   pub front : after ≡ text ++ drop (length text) before
 
 pub record ListsText (n bonds : ℕ) (t before after : List ℕ) (bytes : ℕ) : Type 0 where
   pub text : List ℕ
   pub lists : ListingText n bonds t text
-  pub stands : Stands text before after bytes
+  pub stands : TextStands text before after bytes
 
 pub record Responds (file before after : List ℕ) (bytes : ℕ) : Type 0 where
   pub short : length before < textBytes → (bytes ≡ 0) × (after ≡ before)
-  pub written : textBytes ≤ length before → (text : List ℕ) × FileText file text × Stands text before after bytes
+  pub written : textBytes ≤ length before → (text : List ℕ) × FileText file text × TextStands text before after bytes

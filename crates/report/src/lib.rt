@@ -7,7 +7,7 @@ ghost use Prim.Native.Nat.{_≤_};
 ghost use lib.ListN.{length};
 ghost use Rattle.network.specs.Network.{IsNetwork};
 ghost use Rattle.text.specs.Lines.{refusalText};
-ghost use Rattle.report.specs.Report.{fileBytes, listWords, textBytes, ListsText, Stands, Responds};
+ghost use Rattle.report.specs.Report.{fileBytes, listWords, textBytes, ListsText, TextStands, Responds};
 
 // The bytes of a file that are read: one more than the greatest file has, so that any longer one is refused.
 pub const FILE: usize = bnw::HEAD + bnw::BOND * bnw::BONDS + 1;
@@ -58,7 +58,7 @@ fn list(n: usize, bonds: usize, table: &[u16], out: &mut [u8]) -> usize
 // The line of a refusal.
 fn refuse(answer: Answer, out: &mut [u8]) -> usize
     requires { ⌜ textBytes ≤ length (now out) ⌝ }
-    ensures { λ r. ⌜ Stands (refusalText answer) (now (out .entry)) (now (out .exit)) r ⌝ }
+    ensures { λ r. ⌜ TextStands (refusalText answer) (now (out .entry)) (now (out .exit)) r ⌝ }
 {
     let pen = text::refusal(answer, out);
     pen.at

@@ -1,5 +1,2 @@
--- Laws of rings as words, and of the verdict on a candidate.
-pub mod Firsts
+-- Laws of rings as words.
 pub mod Readers
-pub mod CandidateVerdicts
-pub mod FirstPlaces

@@ -1,5 +1,4 @@
-// The ring type with its maxima, and the checks of a candidate ring.
-pub mod faults;
+// The ring type with its maxima.
 mod writing;
 
 ghost use mathlib.Core.Path.{_≡_};

@@ -23,7 +23,7 @@ ghost use Rattle.flat.specs.Flat.{flatCensus, flatCandidate, PassedOn};
 pub extern "C" fn rings_validate(n: usize, table: &[u16]) -> Answer
     ensures { λ r. ⌜ r ≡ verdict n (now (table .entry)) ⌝ }
 {
-    network::validate(n, table)
+    validator::validate(n, table)
 }
 
 // The distances between all atoms.

@@ -1,8 +1,8 @@
 // Printing of what calls answer: a census of rings, and what the reader of a file tells.
+use averages::Averages;
+use averages::Mean;
 use bnw::FileRead;
-use census::Averages;
 use census::Census;
-use census::Mean;
 use ring::Ring;
 
 // The answer, limit used, total, words, averages, and the counts above 0.

@@ -1,7 +1,6 @@
 // The census of an accepted call.
 use crate::grow::Tally;
 use census::Census;
-use census::average;
 use network::Answer;
 ghost use mathlib.Core.Path.{_≡_};
 ghost use Prim.Native.Nat.{_*_, _≤_};
@@ -19,7 +18,7 @@ pub fn accepted(n: usize, limit: usize, tally: Tally) -> Census
     let counts = tally.counts;
     let total = tally.found.rings;
     let words = tally.found.at;
-    let averages = average::averages_of(n as u32, total, tally.lengths as u32);
+    let averages = averages::averages_of(n as u32, total, tally.lengths as u32);
     Census {
         answer,
         limit,

@@ -71,7 +71,7 @@ fn judge(n: usize, table: &[u16], words: usize) {
     }
     say::named(b"validate atoms", n);
     say::named(b", words", words);
-    say::answer(network::validate(n, &table[..words]));
+    say::answer(validator::validate(n, &table[..words]));
     say::line();
 }
 

@@ -10,6 +10,9 @@ use Rattle.bnw_reader.proofs.head.value_of.Tie as tie
 field-requires : tie.Need-field-requires
 field-requires c κs = omega (arith, c .before .before .pre (omega arith))
 
+cast-signed : tie.Need-cast-signed
+cast-signed c = search needs
+
 signed-requires : tie.Need-signed-requires
 signed-requires c κs = search needs
 
@@ -18,6 +21,9 @@ returns c = toZ-ofZ {w = w32} {z = c .signed .result} (sfits-of (c .signed .ok))
 
 field-requires-2 : tie.Need-field-requires-2
 field-requires-2 c κs = omega (arith, c .before .before .before .pre (omega arith))
+
+cast-signed-2 : tie.Need-cast-signed-2
+cast-signed-2 c = search needs
 
 signed-requires-2 : tie.Need-signed-requires-2
 signed-requires-2 c κs = search needs
@@ -33,9 +39,11 @@ value-of-spec =
     tie.close
     (tie.spec
     field-requires
+    cast-signed
     signed-requires
     returns
     field-requires-2
+    cast-signed-2
     signed-requires-2
     returns-2
     returns-3)

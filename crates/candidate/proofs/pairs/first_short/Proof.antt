@@ -4,9 +4,9 @@ use native.Mathlib.Omega.{arith}
 use borrow.Author.Needs.{needs}
 use lib.Dec.{ltb}
 use lib.ListN.{length}
-use Rattle.ring.specs.Firsts.{firstOf}
+use Rattle.candidate_faults.specs.Firsts.{firstOf}
 use Rattle.candidate.specs.ShorterPairs.{shortAfter, shortPlace}
-use Rattle.ring.proofs.Firsts.{first-start, first-here, first-next, first-never, below, not-below}
+use Rattle.candidate_faults.proofs.Firsts.{first-start, first-here, first-next, first-never, below, not-below}
 use Rattle.candidate.proofs.pairs.first_short.Statement.{statement}
 use Rattle.candidate.proofs.pairs.first_short.Tie as tie
 

@@ -3,9 +3,9 @@ use mathlib.Core.Path.{_≡_, refl, sym, _∙_}
 use native.Mathlib.Omega.{arith}
 use borrow.Author.Needs.{needs}
 use lib.ListN.{length}
-use Rattle.ring.specs.Firsts.{firstOf}
+use Rattle.candidate_faults.specs.Firsts.{firstOf}
 use Rattle.candidate.specs.ShorterPairs.{short, shortAfter}
-use Rattle.ring.proofs.Firsts.{first-here, first-next, first-never}
+use Rattle.candidate_faults.proofs.Firsts.{first-here, first-next, first-never}
 use Rattle.candidate.proofs.pairs.short_after.Statement.{statement}
 use Rattle.candidate.proofs.pairs.short_after.Tie as tie
 

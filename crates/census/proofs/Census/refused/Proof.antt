@@ -1,5 +1,5 @@
 use borrow.Author.Needs.{needs}
-use Rattle.census.proofs.MeanValues.{averages-told}
+use Rattle.averages.proofs.MeanValues.{averages-told}
 use Rattle.census.proofs.Census.refused.Statement.{statement}
 use Rattle.census.proofs.Census.refused.Tie as tie
 

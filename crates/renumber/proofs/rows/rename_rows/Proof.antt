@@ -5,7 +5,7 @@ use borrow.Author.Needs.{needs}
 use lib.ListN.{length}
 use Rattle.network.specs.Maxima.{places}
 use Rattle.network.specs.Network.{word}
-use Rattle.renumber.specs.Names.{name}
+use Rattle.names.specs.Names.{name}
 use Rattle.renumber.specs.Rows.{RowBegun}
 use Rattle.renumber.proofs.PutRows.{part-long, put-long, rows-next}
 use Rattle.renumber.proofs.NewRows.{renumbered}

@@ -1,5 +1,5 @@
 use borrow.Author.Needs.{needs}
-use Rattle.census.proofs.MeanValues.{averages-told}
+use Rattle.averages.proofs.MeanValues.{averages-told}
 use Rattle.search.proofs.answers.accepted.Statement.{statement}
 use Rattle.search.proofs.answers.accepted.Tie as tie
 

@@ -1,0 +1,2 @@
+-- New numbers for atoms, and which of them are refused.
+pub mod Names
