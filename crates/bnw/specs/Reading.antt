@@ -1,6 +1,7 @@
 -- What comes of reading a file: the answer, and the lent table before and after.
 --
---   field file i                  the two bytes from i on, little-endian, unsigned
+--   ofBytes low high              the number of two bytes, little-endian, unsigned
+--   field file i                  the number of the two bytes from i on
 --   versionIn, atomsIn, bondsIn   the fields of the head: bytes 3 and 4, 5 and 6, 7 and 8
 --   Bytes file                    every element is a byte
 --   signed v                      a 16-bit field in two's complement
@@ -36,8 +37,11 @@ use Rattle.network.specs.Verdict.{answer, accepted}
 use Rattle.bnw.specs.declared.FileRead.{FileRead}
 use Rattle.bnw.specs.File.{Bond, mark, version, bondsMost, headLength, bondLength, fileOf, partners, ValidBonds, tableOf}
 
+abbrev pub ofBytes : ℕ → ℕ → ℕ
+ofBytes low high = low + 256 * high
+
 abbrev pub field : List ℕ → ℕ → ℕ
-field file i = getD file i 0 + 256 * getD file (i + 1) 0
+field file i = ofBytes (getD file i 0) (getD file (i + 1) 0)
 
 abbrev pub versionIn : List ℕ → ℕ
 versionIn file = field file 3

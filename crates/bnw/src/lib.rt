@@ -5,8 +5,7 @@
 use network::Answer;
 use network::Network;
 ghost use mathlib.Core.Path.{_≡_};
-ghost use Prim.Native.Nat.{_+_, _*_};
-ghost use Rattle.bnw.specs.Reading.{signed};
+ghost use Rattle.bnw.specs.Reading.{ofBytes, signed};
 
 // The bytes before the bonds, and of a bond.
 pub const HEAD: usize = 9;
@@ -42,9 +41,9 @@ pub struct FileWritten {
     pub bytes: usize,
 }
 
-// The 16-bit number of two bytes, little-endian.
+// The number of two bytes, little-endian.
 pub fn of_bytes(low: u8, high: u8) -> u16
-    ensures { λ r. ⌜ r ≡ low + 256 * high ⌝ }
+    ensures { λ r. ⌜ r ≡ ofBytes low high ⌝ }
 {
     low as u16 + 256 * (high as u16)
 }

@@ -1,5 +1,5 @@
-// The network type with its maxima, the answer that every call gives, and the first check of every call. What a bond table is, and
-// which of its faults comes first, is in specs/; the crate validator has the code.
+// The network type with its maxima, the answer that every call gives, and the check of a table's sizes. What a bond table is, and which
+// of its faults comes first, is in specs/; the crate validator has the code that looks for it.
 //
 // A bond table has a row of 8 places for each atom; a place holds a neighbour or is free.
 ghost use mathlib.Core.Path.{_≡_};
