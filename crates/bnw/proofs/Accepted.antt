@@ -14,15 +14,18 @@ use Rattle.graph.proofs.Lists.{at-place}
 use Rattle.network.specs.Maxima.{places}
 use Rattle.network.specs.Network.{Counted}
 use Rattle.network.specs.Verdict.{accepted}
-use Rattle.bnw.specs.File.{Bond, EarlierBond, version, bondsMost, partner, partners, ValidBonds, fileOf}
-use Rattle.bnw.specs.Reading.{earlierBond, inOrder, bondIn, bondsBelow, fileBondFault, orAt, headFault, readVerdict}
-use Rattle.bnw.proofs.Runs.{length-more, gather-fits}
-use Rattle.bnw.proofs.Partners.{partner-first, partner-second, partners-fit}
+use Rattle.bonds.specs.Bonds.{Bond, EarlierBond, partner, partners, ValidBonds, bondsBelow}
+use Rattle.bonds.specs.Scan.{orAt}
+use Rattle.bonds.proofs.Runs.{length-more, gather-fits}
+use Rattle.bonds.proofs.Scan.{clean-scan}
+use Rattle.bonds.proofs.Partners.{partner-first, partner-second, partners-fit}
+use Rattle.bonds.proofs.Tables.{ascending-places}
+use Rattle.bnw.specs.File.{version, bondsMost, fileOf}
+use Rattle.bnw.specs.Reading.{earlierBond, inOrder, bondIn, fileBondFault, headFault, readVerdict}
 use Rattle.bnw.proofs.HeadFaults.{head-rest}
-use Rattle.bnw.proofs.Valid.{Right, right-none, earlier-is, clean-scan}
+use Rattle.bnw.proofs.Valid.{Right, right-none, earlier-is}
 use Rattle.bnw.proofs.Writings.{file-length}
 use Rattle.bnw.proofs.Decoded.{none, mark-field, version-field, atoms-field, bonds-field, bond-read, bonds-read}
-use Rattle.bnw.proofs.Tables.{ascending-places}
 
 -- each bond stands in two rows, and a row has eight places
 module _ (n : ℕ) where

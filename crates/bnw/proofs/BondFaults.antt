@@ -1,17 +1,14 @@
--- Refusals 26 and 27: at each way through the tests of a bond, and as the bonds are read one after another.
-use mathlib.Core.Path.{_≡_, refl, sym, _∙_}
+-- Refusals 26 and 27 at each way through the tests of a bond.
+use mathlib.Core.Path.{_≡_, sym, _∙_}
 use mathlib.Core.Bool.{Bool, true, false, not}
-use Prim.Native.Nat.{ℕ, zero, suc, _+_, _-_, _≤_, _<_}
-use native.Mathlib.Nat.{sub-zero}
+use Prim.Native.Nat.{ℕ, _-_, _≤_, _<_}
 use native.Mathlib.Omega.{arith}
 use lib.Dec.{ltb}
 use lib.ListN.{length}
 use borrow.Author.Tests.{eq-eqb, ne-eqb, lt-ltb, le-ltb, le-leb, lt-leb}
-use Rattle.network.specs.declared.Answer.{Answer}
 use Rattle.network.specs.Maxima.{places}
-use Rattle.network.specs.Verdict.{answer, accepted}
-use Rattle.bnw.specs.File.{Bond, partners}
-use Rattle.bnw.specs.Reading.{earlierBond, inside, inOrder, full, bondsBelow, fileBondFault, orAt, firstBond}
+use Rattle.bonds.specs.Bonds.{Bond, partners, bondsBelow, full}
+use Rattle.bnw.specs.Reading.{earlierBond, inside, inOrder, fileBondFault}
 
 module _ (bond : ℕ → Bond) (k : ℕ) where
   pub follows-none : k ≡ 0 → true ≡ inOrder bond k
@@ -69,26 +66,3 @@ module _ (n : ℕ) (bond : ℕ → Bond) (k first second : ℕ) (ef : first ≡ 
             pub fault-none : more < places → 0 ≡ fileBondFault n bond k
             unfolding fileBondFault inside full
             fault-none q = rw (← ef, ← es, lt-ltb _ _ lf, lt-ltb _ _ ls, lt-ltb _ _ lo, ← eb, h, ← em, lt-leb _ _ p, ← en, lt-leb _ _ q)
-
-pub given : (c k : ℕ) (later : Answer) → (c ≡ 0 → ⊥) → orAt c k later ≡ answer c 0 k
-unfolding orAt
-given zero k later z = absurd (z refl)
-given (suc c) k later z = refl
-
--- the answer from the start is the answer from bond k on
-pub bonds-start : (fault : ℕ → ℕ) (m : ℕ) → firstBond fault m 0 ≡ firstBond fault (m - 0) 0
-bonds-start fault m = rw sub-zero
-
-module _ (fault : ℕ → ℕ) (m k : ℕ) (so-far : firstBond fault m 0 ≡ firstBond fault (m - k) k) where
-  module _ (c : ℕ) (h : c ≡ fault k) (l : k < m) where
-    pub bonds-here : (c ≡ 0 → ⊥) → answer c 0 k ≡ firstBond fault m 0
-    unfolding firstBond
-    bonds-here z = let e : m - k ≡ suc (m - (k + 1)) = omega arith in sym (so-far ∙ rw (e, ← h) (given c k _ z))
-
-    pub bonds-next : c ≡ 0 → firstBond fault m 0 ≡ firstBond fault (m - (k + 1)) (k + 1)
-    unfolding firstBond orAt
-    bonds-next z = let e : m - k ≡ suc (m - (k + 1)) = omega arith in so-far ∙ rw (e, ← h, z) refl
-
-  pub bonds-never : (a : Answer) → m ≤ k → a ≡ accepted → a ≡ firstBond fault m 0
-  unfolding firstBond
-  bonds-never a l h = let e : m - k ≡ 0 = omega arith in h ∙ sym (so-far ∙ rw e refl)

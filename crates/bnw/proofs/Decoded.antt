@@ -6,17 +6,16 @@ use Prim.Native.Nat.{ℕ, zero, suc, _+_, _-_, _*_, _/_, _%_, _≤_, _<_}
 use native.Mathlib.Numerals.{add-one}
 use native.Mathlib.Omega.{arith}
 use native.Mathlib.Decide.{ℕ-discrete}
-use lib.ListN.{length, getD, take, length-map}
+use lib.ListN.{length, getD, take}
 use lib.Seq.{take-suc, take-all, ext-getD, getD-append-add}
 use borrow.Author.Tests.{eq-eqb, ne-eqb}
 use Rattle.graph.specs.Lists.{gather, numbersFrom}
 use Rattle.graph.proofs.Lists.{getD-map, getD-count, length-count}
-use Rattle.bnw.specs.File.{Bond, mark, version, twoBytes, bondBytes, headOf, fileOf, headLength, bondLength}
-use Rattle.bnw.specs.Reading.{field, Bytes, marked, bondIn, bondsBelow}
-use Rattle.bnw.proofs.Runs.{gather-one, map-more}
-
-pub length-below : (bond : ℕ → Bond) (k : ℕ) → length (bondsBelow bond k) ≡ k
-length-below bond k = length-map (numbersFrom k 0) bond ∙ length-count k 0
+use Rattle.bonds.specs.Bonds.{Bond, bondsBelow}
+use Rattle.bonds.proofs.Runs.{gather-one, map-more}
+use Rattle.bonds.proofs.Order.{length-below}
+use Rattle.bnw.specs.File.{mark, version, twoBytes, bondBytes, headOf, fileOf, headLength, bondLength}
+use Rattle.bnw.specs.Reading.{field, Bytes, marked, bondIn}
 
 -- from bytes to fields
 module _ (file : List ℕ) (bytes : Bytes file) where

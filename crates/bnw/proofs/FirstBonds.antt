@@ -11,9 +11,11 @@ use lib.ListN.{length}
 use Rattle.network.specs.declared.Answer.{Answer}
 use Rattle.network.specs.Maxima.{atomsMost, places}
 use Rattle.network.specs.Verdict.{answer}
-use Rattle.bnw.specs.declared.FileRead.{FileRead}
-use Rattle.bnw.specs.File.{Bond, EarlierBond, version, bondsMost, headLength, bondLength, partners}
-use Rattle.bnw.specs.Reading.{atomsIn, bondsIn, versionIn, signed, outOfRange, marked, headFault, inOrder, bondIn, bondsBelow, fileBondFault, orAt, firstBond, readVerdict, ReadOutcome}
+use Rattle.bonds.specs.declared.NetworkRead.{NetworkRead}
+use Rattle.bonds.specs.Bonds.{Bond, EarlierBond, partners, bondsBelow}
+use Rattle.bonds.specs.Scan.{orAt, firstBond}
+use Rattle.bnw.specs.File.{version, bondsMost, headLength, bondLength}
+use Rattle.bnw.specs.Reading.{atomsIn, bondsIn, versionIn, signed, outOfRange, marked, headFault, inOrder, bondIn, fileBondFault, readVerdict, ReadOutcome}
 use Rattle.bnw.specs.FirstBond.{Misplaced, Ninth, NamesFirstBond}
 use Rattle.bnw.proofs.BondFaults.{follows-none, fault-first, fault-second, fault-order, fault-after, fault-ninth-first, fault-ninth-second, fault-none}
 use Rattle.bnw.proofs.Valid.{follows-earlier, earlier-follows, right-of}
@@ -124,7 +126,7 @@ head-small file room =
     go false false false false false false false = omega arith
 
 -- a file refused for its bonds: the answer names the first bond at fault
-pub read-names-first : (file before after : List ℕ) (r : FileRead) → ReadOutcome file before after r → 25 < r .answer .code → NamesFirstBond (atomsIn file) (bondIn file) (bondsIn file) (r .answer)
+pub read-names-first : (file before after : List ℕ) (r : NetworkRead) → ReadOutcome file before after r → 25 < r .answer .code → NamesFirstBond (atomsIn file) (bondIn file) (bondsIn file) (r .answer)
 unfolding readVerdict orAt
 read-names-first file before after r R h =
     subst (NamesFirstBond (atomsIn file) (bondIn file) (bondsIn file)) (sym (R .verdict))

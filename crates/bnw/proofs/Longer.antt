@@ -12,10 +12,10 @@ use lib.Seq.{length-take-le, take-all, getD-take}
 use Rattle.network.specs.declared.Answer.{Answer}
 use Rattle.network.specs.Maxima.{atomsMost}
 use Rattle.network.specs.Verdict.{refusal}
+use Rattle.bonds.proofs.Scan.{given}
 use Rattle.bnw.specs.File.{version, bondsMost, headLength, bondLength}
 use Rattle.bnw.specs.Reading.{field, versionIn, atomsIn, bondsIn, Bytes, signed, outOfRange, marked, headFault, readVerdict}
 use Rattle.bnw.proofs.Signs.{above-outside}
-use Rattle.bnw.proofs.BondFaults.{given}
 
 -- the bytes of the greatest file
 abbrev pub greatest : ℕ

@@ -8,18 +8,21 @@ use native.Mathlib.Decide.{decLt, ℕ-discrete}
 use lib.IntN.{ℤ, pos}
 use lib.ListN.{length, drop}
 use lib.Seq.{sets}
+use Rattle.graph.proofs.Lists.{sets-front}
 use Rattle.network.specs.declared.Answer.{Answer}
 use Rattle.network.specs.Maxima.{atomsMost, places}
 use Rattle.network.specs.Network.{Counted}
 use Rattle.network.specs.Verdict.{refusal, answer}
-use Rattle.bnw.specs.File.{Bond, version, bondsMost, headLength, bondLength, partners, ValidBonds, tableOf}
-use Rattle.bnw.specs.Reading.{field, Bytes, marked, inside, inOrder, full, bondIn, bondsBelow, fileBondFault, firstBond, orAt, headFault, readVerdict, readValue, ReadOutcome}
-use Rattle.graph.proofs.Lists.{sets-front}
-use Rattle.bnw.proofs.Partners.{table-length}
-use Rattle.bnw.proofs.BondFaults.{given}
+use Rattle.bonds.specs.Bonds.{Bond, partners, ValidBonds, tableOf, bondsBelow, full}
+use Rattle.bonds.specs.Scan.{firstBond, orAt}
+use Rattle.bonds.proofs.Order.{length-below}
+use Rattle.bonds.proofs.Scan.{given, scan-clean, scan-never}
+use Rattle.bonds.proofs.Partners.{table-length}
+use Rattle.bnw.specs.File.{version, bondsMost, headLength, bondLength}
+use Rattle.bnw.specs.Reading.{field, Bytes, marked, inside, inOrder, bondIn, fileBondFault, headFault, readVerdict, readValue, ReadOutcome}
 use Rattle.bnw.proofs.HeadFaults.{head-19, head-20, head-21, head-22-low, head-22-high, head-23, head-24, head-25, value-else}
-use Rattle.bnw.proofs.Valid.{valid, right-of, scan-clean, scan-never}
-use Rattle.bnw.proofs.Decoded.{file-is, length-below}
+use Rattle.bnw.proofs.Valid.{valid, right-of}
+use Rattle.bnw.proofs.Decoded.{file-is}
 
 -- what no fault of the head says
 pub record HeadRight (file : List ℕ) (room : ℕ) : Type 0 where
@@ -142,7 +145,7 @@ module _ (file before : List ℕ) (c : ℕ) (ec : c ≡ headFault file (length b
                 list = bondsBelow (bondIn file) bonds;
                 counted = rw en (head .counted);
                 valid = bonds-valid;
-                format = rw (en, em) (file-is file B (head .long) (head .marks) (head .first) (head .whole));
+                gives = rw (en, em) (file-is file B (head .long) (head .marks) (head .first) (head .whole));
                 number = sym (length-below (bondIn file) bonds);
                 filled = f ∙ sets-front before (tableOf atoms (bondsBelow (bondIn file) bonds)) (omega (arith, table-fits)) ∙ ap (λ (k : ℕ). tableOf atoms (bondsBelow (bondIn file) bonds) ++ drop k before) long;
               };

@@ -1,34 +1,35 @@
 -- Reading and writing are each other's way back, and each contract admits one outcome.
 --
---   read-network      an accepted file gives the table of a network
+--   file-gives-one    a file gives one network
 --   read-write        an accepted file, read and written again, gives the same bytes
 --   write-read        an accepted network, written and read again, gives the same table, atoms and bonds
 --   accepted-exactly  a file is accepted exactly when it is what writing makes of a network for which there is room
 --   reads-one         two outcomes of reading a file into a table are the same
 --   writes-one        two outcomes of writing a network into bytes are the same
-use mathlib.Core.Path.{_≡_, refl, sym, _∙_, ap, ap₂, subst}
+use mathlib.Core.Path.{_≡_, refl, sym, _∙_, ap, ap₂}
 use mathlib.Core.Logic.{_↔_}
 use mathlib.Core.List.{List, _++_}
-use Prim.Native.Nat.{ℕ, _+_, _-_, _*_, _≤_}
+use Prim.Native.Nat.{ℕ, _*_, _≤_}
 use native.Mathlib.Omega.{arith}
 use native.Mathlib.Decide.{ℕ-discrete}
-use lib.IntN.{ℤ}
 use lib.ListN.{length, take, drop}
 use lib.Seq.{take-at}
 use borrow.Author.Tests.{le-ltb}
 use Rattle.network.specs.declared.Answer.{Answer}
 use Rattle.network.specs.Maxima.{places}
 use Rattle.network.specs.Network.{IsNetwork}
-use Rattle.bnw.specs.declared.FileRead.{FileRead}
+use Rattle.bonds.specs.declared.NetworkRead.{NetworkRead}
+use Rattle.bonds.specs.Bonds.{Bond, tableOf, bondsOf, bondsBelow}
+use Rattle.bonds.specs.Outcome.{GivesOne}
+use Rattle.bonds.proofs.Tables.{table-network}
+use Rattle.bonds.proofs.Returns.{bonds-valid, table-back, bonds-back}
+use Rattle.bonds.proofs.Readings.{table-is, read-network, readings-one}
 use Rattle.bnw.specs.declared.FileWritten.{FileWritten}
-use Rattle.bnw.specs.File.{Bond, fileOf, tableOf, bondsOf}
-use Rattle.bnw.specs.Reading.{field, bondIn, bondsBelow, readVerdict, readValue, ReadsAs, ReadOutcome}
+use Rattle.bnw.specs.File.{fileOf}
+use Rattle.bnw.specs.Reading.{field, bondIn, readVerdict, IsFile, ReadOutcome}
 use Rattle.bnw.specs.Writing.{WriteOutcome, FileOfNetwork}
-use Rattle.bnw.proofs.Partners.{table-length}
 use Rattle.bnw.proofs.Writings.{network-judged, writes-network}
 use Rattle.bnw.proofs.Decoded.{atoms-field, bonds-field, bonds-read}
-use Rattle.bnw.proofs.Tables.{table-network}
-use Rattle.bnw.proofs.Returns.{bonds-valid, table-back, bonds-back}
 use Rattle.bnw.proofs.Accepted.{file-accepted, file-fits}
 
 abbrev code : Answer → ℕ
@@ -42,27 +43,22 @@ pub file-bonds : (n m : ℕ) (bonds more : List Bond) → fileOf n bonds ≡ fil
 file-bonds n m bonds more e =
     sym (bonds-read n bonds) ∙ ap₂ (λ (file : List ℕ) (k : ℕ). bondsBelow (bondIn file) k) e (sym (bonds-field n bonds) ∙ ap (λ (file : List ℕ). field file 7) e ∙ bonds-field m more) ∙ bonds-read m more
 
+-- and so a file gives one network
+pub file-gives-one : (file : List ℕ) → GivesOne (IsFile file)
+file-gives-one file n m bonds more B C e d = let same = sym e ∙ d in (file-atoms n m bonds more same, file-bonds n m bonds more same)
+
 -- an accepted reading
-module _ (file before after : List ℕ) (r : FileRead) (R : ReadOutcome file before after r) (z : r .answer .code ≡ 0) where
-  abbrev read-as : ReadsAs file before after r
-  read-as = R .accepts z
-
-  pub table-is : take (places * r .atoms) after ≡ tableOf (r .atoms) (read-as .list)
-  table-is =
-      ap (take (places * r .atoms)) (read-as .filled)
-      ∙ take-at (tableOf (r .atoms) (read-as .list)) (drop (places * r .atoms) before) (places * r .atoms) (table-length (read-as .list) (read-as .valid .eight) (r .atoms))
-
-  pub read-network : IsNetwork (r .atoms) (take (places * r .atoms) after)
-  read-network = subst (IsNetwork (r .atoms)) (sym table-is) (table-network (r .atoms) (read-as .list) (read-as .counted) (read-as .valid))
-
+module _ (file before after : List ℕ) (r : NetworkRead) (R : ReadOutcome file before after r) (z : r .answer .code ≡ 0) where
   same-file : fileOf (r .atoms) (bondsOf (take (places * r .atoms) after)) ≡ file
-  same-file = ap (λ (t : List ℕ). fileOf (r .atoms) (bondsOf t)) table-is ∙ ap (fileOf (r .atoms)) (bonds-back (r .atoms) (read-as .list) (read-as .counted) (read-as .valid)) ∙ sym (read-as .format)
+  same-file =
+      let A = R .accepts z in
+      ap (λ (t : List ℕ). fileOf (r .atoms) (bondsOf t)) (table-is R z) ∙ ap (fileOf (r .atoms)) (bonds-back (r .atoms) (A .list) (A .counted) (A .valid)) ∙ sym (A .gives)
 
   pub read-write : (lent written : List ℕ) (w : FileWritten) → WriteOutcome (r .atoms) (take (places * r .atoms) after) lent written w → length file ≤ length lent
       → (w .answer .code ≡ 0) × (w .bytes ≡ length file) × (take (w .bytes) written ≡ file)
   read-write lent written w W h =
       let e : length (fileOf (r .atoms) (bondsOf (take (places * r .atoms) after))) ≡ length file = ap length same-file in
-      let ok : w .answer .code ≡ 0 = ap code (W .verdict ∙ network-judged (r .atoms) (take (places * r .atoms) after) (length lent) read-network) ∙ rw (le-ltb (length lent) (length (fileOf (r .atoms) (bondsOf (take (places * r .atoms) after)))) (omega (arith, e))) refl in (
+      let ok : w .answer .code ≡ 0 = ap code (W .verdict ∙ network-judged (r .atoms) (take (places * r .atoms) after) (length lent) (read-network R z)) ∙ rw (le-ltb (length lent) (length (fileOf (r .atoms) (bondsOf (take (places * r .atoms) after)))) (omega (arith, e))) refl in (
         ok,
         W .number ok ∙ e,
         ap (take (w .bytes)) (W .written ok) ∙ take-at (fileOf (r .atoms) (bondsOf (take (places * r .atoms) after))) (drop (w .bytes) lent) (w .bytes) (sym (W .number ok)) ∙ same-file,
@@ -76,22 +72,22 @@ module _ (n : ℕ) (t lent written : List ℕ) (w : FileWritten) (W : WriteOutco
   network : IsNetwork n t
   network = writes-network n t (length lent) (sym (ap code (W .verdict)) ∙ z)
 
-  pub write-read : (before after : List ℕ) (r : FileRead) → ReadOutcome (take (w .bytes) written) before after r → places * n ≤ length before
+  pub write-read : (before after : List ℕ) (r : NetworkRead) → ReadOutcome (take (w .bytes) written) before after r → places * n ≤ length before
       → (r .answer .code ≡ 0) × (r .atoms ≡ n) × (r .bonds ≡ length (bondsOf t)) × (take (places * n) after ≡ t)
   write-read before after r R h =
       let ok : r .answer .code ≡ 0 =
       ap code (R .verdict ∙ ap (λ (file : List ℕ). readVerdict file (length before)) file-is ∙ file-accepted n (bondsOf t) (network .counted) (bonds-valid n t network) (length before) h) in
       let a = R .accepts ok in
-      let e : fileOf (r .atoms) (a .list) ≡ fileOf n (bondsOf t) = sym (a .format) ∙ file-is in
+      let e : fileOf (r .atoms) (a .list) ≡ fileOf n (bondsOf t) = sym (a .gives) ∙ file-is in
       let same : r .atoms ≡ n = file-atoms (r .atoms) n (a .list) (bondsOf t) e in
       let bonds : a .list ≡ bondsOf t = file-bonds (r .atoms) n (a .list) (bondsOf t) e in (
         ok,
         same,
         a .number ∙ ap length bonds,
-        ap (λ (k : ℕ). take (places * k) after) (sym same) ∙ table-is (take (w .bytes) written) before after r R ok ∙ ap₂ tableOf same bonds ∙ table-back n t network,
+        ap (λ (k : ℕ). take (places * k) after) (sym same) ∙ table-is R ok ∙ ap₂ tableOf same bonds ∙ table-back n t network,
       )
 
-pub accepted-exactly : (file before after : List ℕ) (r : FileRead) → ReadOutcome file before after r → (r .answer .code ≡ 0) ↔ FileOfNetwork file (length before)
+pub accepted-exactly : (file before after : List ℕ) (r : NetworkRead) → ReadOutcome file before after r → (r .answer .code ≡ 0) ↔ FileOfNetwork file (length before)
 accepted-exactly file before after r R = (
   λ z.
       let a = R .accepts z in
@@ -99,8 +95,8 @@ accepted-exactly file before after r R = (
         atoms = r .atoms;
         table = tableOf (r .atoms) (a .list);
         network = table-network (r .atoms) (a .list) (a .counted) (a .valid);
-        fits = file-fits (r .atoms) (a .list) (a .counted) (a .valid) (length before) (ap code (ap (λ (f : List ℕ). readVerdict f (length before)) (sym (a .format)) ∙ sym (R .verdict)) ∙ z);
-        file-of = a .format ∙ ap (fileOf (r .atoms)) (sym (bonds-back (r .atoms) (a .list) (a .counted) (a .valid)));
+        fits = file-fits (r .atoms) (a .list) (a .counted) (a .valid) (length before) (ap code (ap (λ (f : List ℕ). readVerdict f (length before)) (sym (a .gives)) ∙ sym (R .verdict)) ∙ z);
+        file-of = a .gives ∙ ap (fileOf (r .atoms)) (sym (bonds-back (r .atoms) (a .list) (a .counted) (a .valid)));
       },
   λ F. ap code (
       R .verdict ∙ ap (λ (f : List ℕ). readVerdict f (length before)) (F .file-of)
@@ -109,35 +105,8 @@ accepted-exactly file before after r R = (
 )
 
 -- one outcome
-abbrev reading : Answer → ℕ → ℕ → ℤ → FileRead
-reading a n m v = record { answer = a; atoms = n; bonds = m; value = v }
-
-pub reads-one : (file before one other : List ℕ) (r s : FileRead) → ReadOutcome file before one r → ReadOutcome file before other s → (r ≡ s) × (one ≡ other)
-reads-one file before one other r s R S = go (ℕ-discrete (r .answer .code) 0)
-  where
-    answers : r .answer ≡ s .answer
-    answers = R .verdict ∙ sym (S .verdict)
-
-    values : r .value ≡ s .value
-    values = R .signs ∙ ap (λ (a : Answer). readValue file (a .code)) answers ∙ sym (S .signs)
-
-    same : r .atoms ≡ s .atoms → r .bonds ≡ s .bonds → r ≡ s
-    same n m = ap₂ (λ (a : Answer) (k : ℕ). reading a k (r .bonds) (r .value)) answers n ∙ ap₂ (λ (k : ℕ) (v : ℤ). reading (s .answer) (s .atoms) k v) m values
-
-    go : Dec (r .answer .code ≡ 0) → (r ≡ s) × (one ≡ other)
-    go (no z) =
-        let p = R .refused z in
-        let q = S .refused (λ h. z (ap code answers ∙ h)) in
-        (same (p .0 ∙ sym (q .0)) (p .1 ∙ sym (q .1)), p .2 ∙ sym (q .2))
-    go (yes z) =
-        let p = R .accepts z in
-        let q = S .accepts (sym (ap code answers) ∙ z) in
-        let e : fileOf (r .atoms) (p .list) ≡ fileOf (s .atoms) (q .list) = sym (p .format) ∙ q .format in
-        let atoms : r .atoms ≡ s .atoms = file-atoms (r .atoms) (s .atoms) (p .list) (q .list) e in
-        let bonds : p .list ≡ q .list = file-bonds (r .atoms) (s .atoms) (p .list) (q .list) e in (
-          same atoms (p .number ∙ ap length bonds ∙ sym (q .number)),
-          p .filled ∙ ap₂ (λ (n : ℕ) (bonds : List Bond). tableOf n bonds ++ drop (places * n) before) atoms bonds ∙ sym (q .filled),
-        )
+pub reads-one : (file before one other : List ℕ) (r s : NetworkRead) → ReadOutcome file before one r → ReadOutcome file before other s → (r ≡ s) × (one ≡ other)
+reads-one file before one other r s = readings-one (file-gives-one file)
 
 abbrev writing : Answer → ℕ → FileWritten
 writing a k = record { answer = a; bytes = k }

@@ -1,5 +1,5 @@
 -- Bonds without a fault are valid bonds.
-use mathlib.Core.Path.{_≡_, refl, sym, _∙_, ap, subst}
+use mathlib.Core.Path.{_≡_, refl, sym, ap, subst}
 use mathlib.Core.Logic.{inl, inr}
 use mathlib.Core.Bool.{Bool, true, false}
 use mathlib.Core.List.{List, [], _∷_, List·Memᴰ·eq-of-singleton, List·Memᴰ·not-nil}
@@ -9,28 +9,17 @@ use native.Mathlib.Omega.{arith}
 use native.Mathlib.Decide.{decLe, decLt, ℕ-discrete}
 use lib.ListN.{length, length-append}
 use borrow.Author.Tests.{eq-eqb, ne-eqb, lt-ltb, le-ltb}
-use Rattle.graph.specs.Lists.{_∈_, Ascending, numbersFrom}
-use Rattle.graph.proofs.Lists.{map-of, count-of, append-ascending}
-use Rattle.network.specs.declared.Answer.{Answer}
+use Rattle.graph.specs.Lists.{Ascending}
+use Rattle.graph.proofs.Lists.{append-ascending}
 use Rattle.network.specs.Maxima.{places}
-use Rattle.network.specs.Verdict.{accepted}
-use Rattle.bnw.specs.File.{Bond, EarlierBond, partner, partners, ValidBonds}
-use Rattle.bnw.specs.Reading.{earlierBond, inOrder, bondsBelow, fileBondFault, orAt, firstBond}
-use Rattle.bnw.proofs.Runs.{map-more}
-use Rattle.bnw.proofs.Partners.{partner-first, partner-second, partner-none, partners-more, partners-start}
+use Rattle.bonds.specs.Bonds.{Bond, EarlierBond, partner, partners, ValidBonds, bondsBelow}
+use Rattle.bonds.proofs.Runs.{map-more}
+use Rattle.bonds.proofs.Order.{earlier-on, numbered}
+use Rattle.bonds.proofs.Partners.{partner-first, partner-second, partner-none, partners-more, partners-start}
+use Rattle.bnw.specs.Reading.{earlierBond, inOrder, fileBondFault}
 use Rattle.bnw.proofs.BondFaults.{fault-first, fault-second, fault-order, fault-after, fault-ninth-first, fault-ninth-second, fault-none}
 
 -- the order of bonds
-pub earlier-not : (a : Bond) → EarlierBond a a → ⊥
-earlier-not a (inl h) = omega arith
-earlier-not a (inr h) = omega (arith, h .1)
-
-pub earlier-on : (a b c : Bond) → EarlierBond a b → EarlierBond b c → EarlierBond a c
-earlier-on a b c (inl h) (inl k) = inl (omega arith)
-earlier-on a b c (inl h) (inr k) = inl (omega (arith, k .0))
-earlier-on a b c (inr h) (inl k) = inl (omega (arith, h .0))
-earlier-on a b c (inr h) (inr k) = inr (h .0 ∙ k .0, omega (arith, h .1, k .1))
-
 pub earlier-of : (a b : Bond) → earlierBond a b ≡ true → EarlierBond a b
 unfolding earlierBond
 earlier-of a b e = go (decLt (a .first) (b .first)) (ℕ-discrete (a .first) (b .first)) (decLt (a .second) (b .second))
@@ -110,15 +99,12 @@ module _ (n : ℕ) (bond : ℕ → Bond) (m : ℕ) (right : (k : ℕ) → k < m 
       go (yes e) ih = rw e (next k l)
       go (no e) ih = earlier-on (bond j) (bond k) (bond (suc k)) (ih (omega arith) (omega arith)) (next k l)
 
-  pub numbered : (k : ℕ) {b : Bond} → b ∈ bondsBelow bond k → (j : ℕ) × (j < k) × (b ≡ bond j)
-  numbered k h = let r = map-of bond (numbersFrom k 0) h in (r .0, omega (arith, count-of k 0 (r .1) .1), r .2)
-
   rises : (k : ℕ) → k ≤ m → Ascending EarlierBond (bondsBelow bond k)
   rises zero h = tt
   rises (suc k) h =
       subst (Ascending EarlierBond) (sym (rw add-one at (map-more bond k)))
       (append-ascending EarlierBond (bondsBelow bond k) (bond k ∷ []) (rises k (omega arith)) (λ b q. absurd (List·Memᴰ·not-nil q), tt)
-      (λ a b p q. let r = numbered k p in
+      (λ a b p q. let r = numbered bond k p in
       subst (λ (c : Bond). EarlierBond c b) (sym (r .2)) (subst (λ (c : Bond). EarlierBond (bond (r .0)) c) (sym (List·Memᴰ·eq-of-singleton q)) (chain (r .0) k (r .1) (omega arith)))))
 
   rooms : (x k : ℕ) → k ≤ m → length (partners (bondsBelow bond k) x) ≤ places
@@ -135,39 +121,8 @@ module _ (n : ℕ) (bond : ℕ → Bond) (m : ℕ) (right : (k : ℕ) → k < m 
 
   pub valid : ValidBonds n (bondsBelow bond m)
   valid = record {
-    ordered = λ b h. let r = numbered m h in subst (λ (c : Bond). c .first < c .second) (sym (r .2)) (right (r .0) (r .1) .ordered);
-    below = λ b h. let r = numbered m h in subst (λ (c : Bond). c .second < n) (sym (r .2)) (right (r .0) (r .1) .below);
+    ordered = λ b h. let r = numbered bond m h in subst (λ (c : Bond). c .first < c .second) (sym (r .2)) (right (r .0) (r .1) .ordered);
+    below = λ b h. let r = numbered bond m h in subst (λ (c : Bond). c .second < n) (sym (r .2)) (right (r .0) (r .1) .below);
     ascends = rises m (omega arith);
     eight = λ x. rooms x m (omega arith);
   }
-
--- the scan of the bonds
-or-clean : (c k : ℕ) (a : Answer) → orAt c k a .code ≡ 0 → (c ≡ 0) × (a .code ≡ 0)
-unfolding orAt
-or-clean zero k a z = (refl, z)
-or-clean (suc c) k a z = absurd (omega arith)
-
-pub scan-clean : (fault : ℕ → ℕ) (m k : ℕ) → firstBond fault m k .code ≡ 0 → (j : ℕ) → k ≤ j → j < k + m → fault j ≡ 0
-unfolding firstBond
-scan-clean fault zero k z j l h = absurd (omega arith)
-scan-clean fault (suc m) k z j l h =
-    let both = or-clean (fault k) k _ z in
-    elim (decLe (k + 1) j) [
-      | yes i ↦ scan-clean fault m (k + 1) (both .1) j i (omega arith)
-      | no i ↦ (let e : j ≡ k = omega arith in rw e (both .0))
-    ]
-
-pub clean-scan : (fault : ℕ → ℕ) (m k : ℕ) → ((j : ℕ) → k ≤ j → j < k + m → fault j ≡ 0) → firstBond fault m k ≡ accepted
-unfolding firstBond orAt
-clean-scan fault zero k f = refl
-clean-scan fault (suc m) k f = rw (f k (omega arith) (omega arith)) (clean-scan fault m (k + 1) (λ j l h. f j (omega arith) (omega arith)))
-
--- a number that no bond gives is no answer
-pub scan-never : (c : ℕ) → (c ≡ 0 → ⊥) → (fault : ℕ → ℕ) → ((k : ℕ) → fault k ≡ c → ⊥) → (m k : ℕ) → firstBond fault m k .code ≡ c → ⊥
-unfolding firstBond orAt
-scan-never c z fault f zero k e = z (sym e)
-scan-never c z fault f (suc m) k e = go (fault k) refl (scan-never c z fault f m (k + 1)) e
-  where
-    go : (d : ℕ) → fault k ≡ d → (firstBond fault m (k + 1) .code ≡ c → ⊥) → orAt d k (firstBond fault m (k + 1)) .code ≡ c → ⊥
-    go zero h ih e = ih e
-    go (suc d) h ih e = f k (h ∙ e)

@@ -16,11 +16,12 @@ use Rattle.network.specs.Verdict.{verdict, check, accepted, refusal}
 use Rattle.network.specs.Chain.{Check, Sizes, Table, Accepted}
 use Rattle.network.proofs.Chains.{check-most, sizes-say, table-says}
 use Rattle.network.proofs.Networks.{network-of, accepted-of, verdict-kept, verdict-passed}
-use Rattle.bnw.specs.File.{Bond, fileOf, headOf, bondsOf, bondBytes, headLength, bondLength}
+use Rattle.bonds.specs.Bonds.{Bond, bondsOf}
+use Rattle.bonds.proofs.Runs.{sets-after}
+use Rattle.bnw.specs.File.{fileOf, headOf, bondBytes, headLength, bondLength}
 use Rattle.bnw.specs.Writing.{writeVerdict, WriteOutcome}
 use Rattle.graph.proofs.Lists.{sets-front}
-use Rattle.bnw.proofs.Runs.{sets-after}
-use Rattle.bnw.proofs.TableBonds.{bytes-length}
+use Rattle.bnw.proofs.WrittenBonds.{bytes-length}
 
 pub file-length : (n : ℕ) (bonds : List Bond) → length (fileOf n bonds) ≡ headLength + bondLength * length bonds
 unfolding fileOf

@@ -9,8 +9,7 @@ use Prim.Native.Nat.{ℕ, suc, _≤_, _<_}
 use lib.ListN.{length}
 use Rattle.network.specs.declared.Answer.{Answer}
 use Rattle.network.specs.Maxima.{places}
-use Rattle.bnw.specs.File.{Bond, EarlierBond, partners}
-use Rattle.bnw.specs.Reading.{bondsBelow}
+use Rattle.bonds.specs.Bonds.{Bond, EarlierBond, partners, bondsBelow}
 
 abbrev pub Misplaced : ℕ → (ℕ → Bond) → ℕ → Type 0
 Misplaced n bond k =

@@ -10,32 +10,29 @@
 --   headFault file room           the first of 19 to 25, or 0, where the table lent has `room` words
 --   bondIn file k                 bond k of a file
 --   earlierBond a b               whether bond a comes before bond b
---   bondsBelow bond k             the bonds of number below k
 --   inside n b                    whether both atoms are below n, and the first is below the second
 --   inOrder bond k                whether bond k comes after the previous one, if there is one
---   full bond k x                 whether x has, among the bonds of number below k, as many as a row has places
 --   fileBondFault n bond k        26 or 27 at bond k, or 0
---   orAt c k later                fault c with place k; 0 is none, and what comes later decides
---   firstBond fault m k           the first fault among the m bonds from k on
 --   readVerdict file room         19 to 25, then 26 and 27 bond by bond
 --   readValue file code           the signed value that goes with an answer: the count field at 22 and 23, otherwise 0
+--   IsFile file n bonds           the file is that of n atoms and these bonds
 --   ReadsAs file before after r   the file is that of r's atoms and some valid bonds, of r's number, and their table stands
 --                                 first in the table lent, of which the rest stays
 --   ReadOutcome file before after r    what comes of reading: refused, nothing is changed and the counts are 0
 use mathlib.Core.Path.{_≡_}
 use mathlib.Core.Bool.{Bool, true, cond, not, _&&_, _||_}
-use mathlib.Core.List.{List, _++_, map}
-use Prim.Native.Nat.{ℕ, zero, suc, _+_, _-_, _*_, _<_}
+use mathlib.Core.List.{List}
+use Prim.Native.Nat.{ℕ, _+_, _-_, _*_, _<_}
 use lib.Dec.{eqb, leb, ltb}
 use lib.IntN.{ℤ, pos, negsuc, _-ℤ_}
-use lib.ListN.{length, getD, drop}
-use Rattle.graph.specs.Lists.{numbersFrom}
+use lib.ListN.{length, getD}
 use Rattle.network.specs.declared.Answer.{Answer}
 use Rattle.network.specs.Maxima.{atomsMost, places}
-use Rattle.network.specs.Network.{Counted}
-use Rattle.network.specs.Verdict.{answer, accepted}
-use Rattle.bnw.specs.declared.FileRead.{FileRead}
-use Rattle.bnw.specs.File.{Bond, mark, version, bondsMost, headLength, bondLength, fileOf, partners, ValidBonds, tableOf}
+use Rattle.bonds.specs.declared.NetworkRead.{NetworkRead}
+use Rattle.bonds.specs.Bonds.{Bond, full}
+use Rattle.bonds.specs.Scan.{orAt, firstBond}
+use Rattle.bonds.specs.Outcome.{Filled, ReadingOutcome}
+use Rattle.bnw.specs.File.{mark, version, bondsMost, headLength, bondLength, fileOf}
 
 abbrev pub ofBytes : ℕ → ℕ → ℕ
 ofBytes low high = low + 256 * high
@@ -82,17 +79,11 @@ bondIn file k = record { first = field file (headLength + bondLength * k); secon
 unfoldable pub earlierBond : Bond → Bond → Bool
 earlierBond a b = ltb (a .first) (b .first) || (eqb (a .first) (b .first) && ltb (a .second) (b .second))
 
-abbrev pub bondsBelow : (ℕ → Bond) → ℕ → List Bond
-bondsBelow bond k = map bond (numbersFrom k 0)
-
 unfoldable pub inside : ℕ → Bond → Bool
 inside n b = ltb (b .first) n && ltb (b .second) n && ltb (b .first) (b .second)
 
 unfoldable pub inOrder : (ℕ → Bond) → ℕ → Bool
 inOrder bond k = eqb k 0 || earlierBond (bond (k - 1)) (bond k)
-
-unfoldable pub full : (ℕ → Bond) → ℕ → ℕ → Bool
-full bond k x = leb places (length (partners (bondsBelow bond k) x))
 
 unfoldable pub fileBondFault : ℕ → (ℕ → Bond) → ℕ → ℕ
 fileBondFault n bond k =
@@ -100,30 +91,17 @@ fileBondFault n bond k =
     (cond (full bond k (bond k .first) || full bond k (bond k .second)) 27
     0)
 
-unfoldable pub orAt : ℕ → ℕ → Answer → Answer
-orAt zero k later = later
-orAt (suc c) k later = answer (suc c) 0 k
-
-unfoldable pub firstBond : (ℕ → ℕ) → ℕ → ℕ → Answer
-firstBond fault zero k = accepted
-firstBond fault (suc m) k = orAt (fault k) k (firstBond fault m (k + 1))
-
 unfoldable pub readVerdict : List ℕ → ℕ → Answer
 readVerdict file room = orAt (headFault file room) 0 (firstBond (fileBondFault (atomsIn file) (bondIn file)) (bondsIn file) 0)
 
 unfoldable pub readValue : List ℕ → ℕ → ℤ
 readValue file code = cond (eqb code 22) (signed (atomsIn file)) (cond (eqb code 23) (signed (bondsIn file)) (pos 0))
 
-pub record ReadsAs (file before after : List ℕ) (r : FileRead) : Type 0 where
-  pub list : List Bond
-  pub counted : Counted (r .atoms)
-  pub valid : ValidBonds (r .atoms) list
-  pub format : file ≡ fileOf (r .atoms) list
-  pub number : r .bonds ≡ length list
-  pub filled : after ≡ tableOf (r .atoms) list ++ drop (places * r .atoms) before
+abbrev pub IsFile : List ℕ → ℕ → List Bond → Type 0
+IsFile file n bonds = file ≡ fileOf n bonds
 
-pub record ReadOutcome (file before after : List ℕ) (r : FileRead) : Type 0 where
-  pub verdict : r .answer ≡ readVerdict file (length before)
-  pub signs : r .value ≡ readValue file (r .answer .code)
-  pub refused : (r .answer .code ≡ 0 → ⊥) → (r .atoms ≡ 0) × (r .bonds ≡ 0) × (after ≡ before)
-  pub accepts : r .answer .code ≡ 0 → ReadsAs file before after r
+abbrev pub ReadsAs : List ℕ → List ℕ → List ℕ → NetworkRead → Type 0
+ReadsAs file = Filled (IsFile file)
+
+abbrev pub ReadOutcome : List ℕ → List ℕ → List ℕ → NetworkRead → Type 0
+ReadOutcome file before after r = ReadingOutcome (readVerdict file (length before)) (readValue file) (IsFile file) before after r

@@ -12,8 +12,9 @@ use Rattle.network.specs.declared.Answer.{Answer}
 use Rattle.network.specs.Maxima.{places}
 use Rattle.network.specs.Network.{IsNetwork}
 use Rattle.network.specs.Verdict.{check, sizes, faults, accepted}
+use Rattle.bonds.specs.Bonds.{bondsOf}
 use Rattle.bnw.specs.declared.FileWritten.{FileWritten}
-use Rattle.bnw.specs.File.{fileOf, bondsOf}
+use Rattle.bnw.specs.File.{fileOf}
 
 unfoldable pub writeVerdict : ℕ → List ℕ → ℕ → Answer
 writeVerdict n t room = sizes n t (λ a. a) (faults n t (check 28 (ltb room (length (fileOf n (bondsOf t)))) accepted))

@@ -1,4 +1,4 @@
-// The network file: its numbers, and what comes of reading and writing one.
+// The network file: its numbers, and what comes of writing one; what comes of reading one is a struct of `bonds`.
 //
 // A file is the mark "BNW", the version, the counts of atoms and of bonds, then the bonds in ascending order. What it means is in
 // specs/, that it returns in proofs/; the crates bnw_reader and bnw_writer have the rest of the code.
@@ -24,15 +24,6 @@ pub const BONDS_AT: usize = 7;
 
 // The most bonds of a network: each has two atoms, and an atom has at most a row's places.
 pub const BONDS: usize = Network::ATOMS * Network::PLACES / 2;
-
-// What comes of reading: the answer, the counts of atoms and of bonds, and the count field that refusals 22 and 23 name.
-#[repr(C)]
-pub struct FileRead {
-    pub answer: Answer,
-    pub atoms: usize,
-    pub bonds: usize,
-    pub value: i32,
-}
 
 // What comes of writing: the answer and the bytes written.
 #[repr(C)]

@@ -1,21 +1,21 @@
 // The reader of network files.
-mod bonds;
 mod fields;
+mod file_bonds;
 mod head;
 mod rows;
 
-use bnw::FileRead;
+use bonds::NetworkRead;
 use network::Answer;
 ghost use Rattle.bnw.specs.Reading.{ReadOutcome};
 
 // Reads a file into the table lent, of which nothing is changed until the whole file is found right.
-pub fn read(file: &[u8], table: &mut [u16]) -> FileRead
+pub fn read(file: &[u8], table: &mut [u16]) -> NetworkRead
     ensures { λ r. ⌜ ReadOutcome (now (file .entry)) (now (table .entry)) (now (table .exit)) r ⌝ }
 {
     let code = head::head_fault(file, table.len());
     if code != 0 {
         let value = head::value_of(file, code);
-        return FileRead {
+        return NetworkRead {
             answer: Answer::refused(code),
             atoms: 0,
             bonds: 0,
@@ -24,9 +24,9 @@ pub fn read(file: &[u8], table: &mut [u16]) -> FileRead
     }
     let atoms = fields::field(file, bnw::ATOMS_AT);
     let bonds = fields::field(file, bnw::BONDS_AT);
-    let answer = bonds::bond_faults(atoms, file, bonds);
+    let answer = file_bonds::bond_faults(atoms, file, bonds);
     if answer.code != 0 {
-        return FileRead {
+        return NetworkRead {
             answer: answer,
             atoms: 0,
             bonds: 0,
@@ -34,7 +34,7 @@ pub fn read(file: &[u8], table: &mut [u16]) -> FileRead
         };
     }
     rows::fill_table(atoms, file, bonds, table);
-    FileRead {
+    NetworkRead {
         answer: answer,
         atoms: atoms,
         bonds: bonds,

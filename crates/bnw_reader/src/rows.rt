@@ -1,13 +1,14 @@
 // The table that the bonds of a file define, written row by row.
-use crate::bonds;
+use crate::file_bonds;
 use network::Network;
 ghost use mathlib.Core.Path.{_≡_};
 ghost use Prim.Native.Nat.{ℕ, suc, _+_, _-_, _*_, _≤_, _<_};
 ghost use lib.ListN.{length, replicate};
 ghost use lib.Seq.{sets};
 ghost use Rattle.network.specs.Maxima.{places, free};
-ghost use Rattle.bnw.specs.File.{partner, partners, rowOf, tableOf, headLength, bondLength};
-ghost use Rattle.bnw.specs.Reading.{bondIn, bondsBelow};
+ghost use Rattle.bonds.specs.Bonds.{partner, partners, rowOf, tableOf, bondsBelow};
+ghost use Rattle.bnw.specs.File.{headLength, bondLength};
+ghost use Rattle.bnw.specs.Reading.{bondIn};
 
 // Writes the rows of n atoms.
 pub fn fill_table(n: usize, file: &[u8], bonds: usize, table: &mut [u16])
@@ -55,8 +56,8 @@ fn fill_partner(file: &[u8], k: usize, x: usize, at: usize, table: &mut [u16]) -
     requires { ⌜ at + length (partner x (bondIn (now file) k)) ≤ length (now table) ⌝ }
     ensures { λ r. ⌜ (r ≡ at + length (partner x (bondIn (now (file .entry)) k))) × (now (table .exit) ≡ sets (now (table .entry)) at (partner x (bondIn (now (file .entry)) k))) ⌝ }
 {
-    let first = bonds::first_atom(file, k);
-    let second = bonds::second_atom(file, k);
+    let first = file_bonds::first_atom(file, k);
+    let second = file_bonds::second_atom(file, k);
     if first == x {
         table[at] = second as u16;
         return at + 1;

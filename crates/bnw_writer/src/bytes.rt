@@ -7,7 +7,8 @@ ghost use lib.ListN.{length};
 ghost use lib.Seq.{sets};
 ghost use Rattle.graph.specs.Lists.{gather};
 ghost use Rattle.network.specs.Maxima.{atomsMost, places};
-ghost use Rattle.bnw.specs.File.{bondBytes, bondAt, bondsOf, mark, headOf, headLength, bondLength};
+ghost use Rattle.bonds.specs.Bonds.{bondAt, bondsOf};
+ghost use Rattle.bnw.specs.File.{bondBytes, mark, headOf, headLength, bondLength};
 
 // The number of bonds of a table.
 pub fn count_bonds(table: &[u16]) -> usize

@@ -2,8 +2,8 @@
 // The program's is in program; calls made one after the other are in `two_calls`.
 pub mod program;
 
-use bnw::FileRead;
 use bnw::FileWritten;
+use bonds::NetworkRead;
 use candidate::Tested;
 use census::Census;
 use network::Answer;
@@ -59,7 +59,7 @@ pub fn renumber(n: usize, table: &[u16], names: &[u16], renamed: &mut [u16]) -> 
 }
 
 // The rows of the file's network come to stand first in the table lent.
-pub fn read(file: &[u8], table: &mut [u16]) -> FileRead
+pub fn read(file: &[u8], table: &mut [u16]) -> NetworkRead
     ensures { λ r. ⌜ ReadMet (now (file .entry)) (now (table .entry)) (now (table .exit)) r ⌝ }
 {
     bnw_reader::read(file, table)

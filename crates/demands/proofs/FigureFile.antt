@@ -6,8 +6,10 @@ use lib.IntN.{negsuc}
 use Rattle.network.specs.Maxima.{places}
 use Rattle.network.specs.Verdict.{accepted, refusal}
 use Rattle.examples.specs.Examples.{rowsTable, P2}
-use Rattle.bnw.specs.File.{fileOf, bondAt, bondsOf, partner, partners, rowOf, tableOf}
-use Rattle.bnw.specs.Reading.{signed, outOfRange, marked, headFault, earlierBond, inside, inOrder, full, fileBondFault, bondIn, bondsBelow, orAt, firstBond, readVerdict, readValue}
+use Rattle.bonds.specs.Bonds.{partner, partners, rowOf, tableOf, bondAt, bondsOf, bondsBelow, full}
+use Rattle.bonds.specs.Scan.{orAt, firstBond}
+use Rattle.bnw.specs.File.{fileOf}
+use Rattle.bnw.specs.Reading.{signed, outOfRange, marked, headFault, earlierBond, inside, inOrder, fileBondFault, bondIn, readVerdict, readValue}
 
 -- "BNW", version 1, so many atoms, nine bonds
 abbrev pub file : ℕ → ℕ → List ℕ

@@ -14,9 +14,10 @@ use Rattle.examples.specs.Examples.{rowsTable, ExampleHolds, P2}
 use Rattle.examples.proofs.Examples.{examples-hold}
 use Rattle.census.specs.Census.{encodeBy, countsBy}
 use Rattle.census.proofs.Passed.{limit-default}
-use Rattle.bnw.specs.File.{bondAt, bondsOf, partner, partners}
-use Rattle.bnw.specs.Reading.{signed, outOfRange, marked, headFault, earlierBond, inside, inOrder, full, fileBondFault, orAt, firstBond, readVerdict}
-use Rattle.bnw.proofs.Returns.{bonds-valid, table-back}
+use Rattle.bonds.specs.Bonds.{partner, partners, bondAt, bondsOf, full}
+use Rattle.bonds.specs.Scan.{orAt, firstBond}
+use Rattle.bonds.proofs.Returns.{bonds-valid, table-back}
+use Rattle.bnw.specs.Reading.{signed, outOfRange, marked, headFault, earlierBond, inside, inOrder, fileBondFault, readVerdict}
 use Rattle.page.specs.Numbers.{digits}
 use Rattle.text.specs.Letters.{letters}
 use Rattle.text.specs.Lines.{sizesText, ringText, countText, countsText, totalText, refusalText}
@@ -56,7 +57,7 @@ figure-text = record {
     bonds = bondsOf table;
     counted = network .counted;
     valid = bonds-valid 7 table network;
-    format = sym figure-1-written;
+    gives = sym figure-1-written;
     lists = subst (λ (t : List ℕ). ListingText 7 (length (bondsOf table)) t nineLines) (sym (table-back 7 table network)) figure-listing;
   };
 }

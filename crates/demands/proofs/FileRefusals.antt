@@ -13,11 +13,12 @@ use Rattle.network.specs.declared.Answer.{Answer}
 use Rattle.network.specs.Maxima.{atomsMost, places}
 use Rattle.network.specs.Chain.{Answers, Check, Accepted}
 use Rattle.network.proofs.Chains.{in-range, range-true, range-false}
-use Rattle.bnw.specs.File.{Bond, mark, version, bondsMost, headLength, bondLength}
-use Rattle.bnw.specs.Reading.{versionIn, atomsIn, bondsIn, signed, outOfRange, marked, headFault, bondIn, fileBondFault, orAt, firstBond, readVerdict}
-use Rattle.bnw.proofs.Valid.{scan-clean, clean-scan}
+use Rattle.bonds.specs.Bonds.{Bond}
+use Rattle.bonds.specs.Scan.{orAt, firstBond}
+use Rattle.bonds.proofs.Scan.{scan-clean, clean-scan, given}
+use Rattle.bnw.specs.File.{mark, version, bondsMost, headLength, bondLength}
+use Rattle.bnw.specs.Reading.{versionIn, atomsIn, bondsIn, signed, outOfRange, marked, headFault, bondIn, fileBondFault, readVerdict}
 use Rattle.bnw.proofs.FirstBonds.{fault-clean, names-first}
-use Rattle.bnw.proofs.BondFaults.{given}
 use Rattle.demands.specs.FileRefusals.{Marked, Within, Bonds, ReadSays}
 
 -- one check of the head

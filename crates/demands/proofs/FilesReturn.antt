@@ -6,27 +6,18 @@ use native.Mathlib.Omega.{arith}
 use native.Mathlib.Decide.{ℕ-discrete}
 use lib.ListN.{length, take, drop, length-append}
 use Rattle.network.specs.Maxima.{places}
-use Rattle.bnw.specs.declared.FileRead.{FileRead}
+use Rattle.bonds.specs.Bonds.{bondsOf}
+use Rattle.bonds.proofs.Readings.{read-network}
 use Rattle.bnw.specs.declared.FileWritten.{FileWritten}
-use Rattle.bnw.specs.File.{fileOf, bondsOf, tableOf}
+use Rattle.bnw.specs.File.{fileOf}
 use Rattle.bnw.specs.Reading.{ReadOutcome}
 use Rattle.bnw.specs.Writing.{WriteOutcome}
-use Rattle.bnw.proofs.Partners.{table-length}
-use Rattle.bnw.proofs.RoundTrips.{read-network, read-write, write-read}
+use Rattle.bnw.proofs.RoundTrips.{read-write, write-read}
 use Rattle.demands.specs.declared.ReadAndWritten.{ReadAndWritten}
 use Rattle.demands.specs.Files.{rowsRead, ReadThenWrite, WriteThenRead}
 use Rattle.demands.proofs.Meets.{read-met, write-met}
 
--- the rows read are part of the table, and the bytes written part of the file
-pub rows-inside : (file table table′ : List ℕ) (r : FileRead) → ReadOutcome file table table′ r → places * r .atoms ≤ length table′
-rows-inside file table table′ r R = go (ℕ-discrete (r .answer .code) 0)
-  where
-    go : Dec (r .answer .code ≡ 0) → places * r .atoms ≤ length table′
-    go (no z) = omega (arith, R .refused z .0)
-    go (yes z) =
-        let A = R .accepts z in
-        omega (arith, ap length (A .filled), length-append (tableOf (r .atoms) (A .list)) (drop (places * r .atoms) table), table-length (A .list) (A .valid .eight) (r .atoms))
-
+-- the bytes written are part of the file
 pub bytes-inside : (n : ℕ) (t file file′ : List ℕ) (w : FileWritten) → WriteOutcome n t file file′ w → w .bytes ≤ length file′
 bytes-inside n t file file′ w W = go (ℕ-discrete (w .answer .code) 0)
   where
@@ -39,7 +30,7 @@ pub read-then-write : (file table table′ lent lent′ : List ℕ) (r : ReadAnd
 read-then-write file table table′ lent lent′ r R W = record {
   read = read-met file table table′ (r .reading) R;
   written = write-met (r .reading .atoms) (rowsRead (r .reading) table′) lent lent′ (r .writing) W;
-  network = read-network file table table′ (r .reading) R;
+  network = read-network R;
   back = λ z h. (let back = read-write file table table′ (r .reading) R z lent lent′ (r .writing) W h in (back .0, back .2));
 }
 

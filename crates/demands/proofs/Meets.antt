@@ -17,7 +17,7 @@ use Rattle.census.specs.Census.{CountOutcome, ListOutcome}
 use Rattle.census.proofs.Settled.{reached}
 use Rattle.renumber.specs.Outcome.{RenumberOutcome}
 use Rattle.renumber.proofs.Outcomes.{renumber-says}
-use Rattle.bnw.specs.declared.FileRead.{FileRead}
+use Rattle.bonds.specs.declared.NetworkRead.{NetworkRead}
 use Rattle.bnw.specs.declared.FileWritten.{FileWritten}
 use Rattle.bnw.specs.Reading.{atomsIn, bondsIn, ReadOutcome}
 use Rattle.bnw.specs.Writing.{WriteOutcome}
@@ -81,7 +81,7 @@ module _ (n : ℕ) (t : List ℕ) where
     done = λ z. (h .number z, h .written z);
   }
 
-pub read-met : (file table table′ : List ℕ) (r : FileRead) → ReadOutcome file table table′ r → ReadMet file table table′ r
+pub read-met : (file table table′ : List ℕ) (r : NetworkRead) → ReadOutcome file table table′ r → ReadMet file table table′ r
 read-met file table table′ r h = record {
   gives = subst (ReadSays file table) (sym (h .verdict)) (read-says file table);
   refused = λ z. record {

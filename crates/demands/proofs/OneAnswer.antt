@@ -10,7 +10,7 @@ use Rattle.network.specs.Chain.{Answers, OneAnswer}
 use Rattle.network.proofs.FirstFaults.{same-place, same-answer}
 use Rattle.network.proofs.Chains.{one-link}
 use Rattle.census.specs.Census.{limitOf}
-use Rattle.bnw.specs.File.{Bond}
+use Rattle.bonds.specs.Bonds.{Bond}
 use Rattle.bnw.specs.FirstBond.{Misplaced, Ninth, NamesFirstBond}
 use Rattle.demands.specs.Refusals.{OfRings}
 use Rattle.demands.specs.FileRefusals.{Bonds}

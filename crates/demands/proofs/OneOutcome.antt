@@ -21,7 +21,7 @@ use Rattle.census.specs.Census.{noCensus}
 use Rattle.renumber.specs.Outcome.{RenumberOutcome}
 use Rattle.renumber.proofs.Outcomes.{renumber-says}
 use Rattle.renumber.proofs.OneOutcome.{one-outcome}
-use Rattle.bnw.specs.declared.FileRead.{FileRead}
+use Rattle.bonds.specs.declared.NetworkRead.{NetworkRead}
 use Rattle.bnw.specs.declared.FileWritten.{FileWritten}
 use Rattle.bnw.specs.Reading.{atomsIn, bondsIn, readValue, ReadOutcome}
 use Rattle.bnw.specs.Writing.{WriteOutcome}
@@ -99,7 +99,7 @@ write-fixed n t file = record { answer = only; outcome = λ o p M N. both o p (w
     contract file′ w M = record { verdict = only (w .answer) _ (M .gives) (write-says n t (length file)); refused = M .refused; number = λ z. M .done z .0; written = λ z. M .done z .1 }
 
 -- the value that goes with an answer of the reader
-value-met : (file table table′ : List ℕ) (r : FileRead) → ReadMet file table table′ r → r .value ≡ readValue file (r .answer .code)
+value-met : (file table table′ : List ℕ) (r : NetworkRead) → ReadMet file table table′ r → r .value ≡ readValue file (r .answer .code)
 value-met file table table′ r M = signs (ℕ-discrete (r .answer .code) 0) (ℕ-discrete (r .answer .code) 22) (ℕ-discrete (r .answer .code) 23)
   where
     signs : Dec (r .answer .code ≡ 0) → Dec (r .answer .code ≡ 22) → Dec (r .answer .code ≡ 23) → r .value ≡ readValue file (r .answer .code)
@@ -114,7 +114,7 @@ read-fixed file table = record { answer = only; outcome = λ o p M N. both o p (
     only : OneAnswer (ReadSays file table)
     only = one-check _ _ _ (one-check _ _ _ (one-check _ _ _ (one-check _ _ _ (one-check _ _ _ (one-check _ _ _ (one-check _ _ _ (one-bonds _ _ _ _ one-accepted)))))))
 
-    contract : (table′ : List ℕ) (r : FileRead) → ReadMet file table table′ r → ReadOutcome file table table′ r
+    contract : (table′ : List ℕ) (r : NetworkRead) → ReadMet file table table′ r → ReadOutcome file table table′ r
     contract table′ r M = record {
       verdict = only (r .answer) _ (M .gives) (read-says file table);
       signs = value-met file table table′ r M;

@@ -9,9 +9,9 @@ use Rattle.network.specs.Maxima.{places}
 use Rattle.network.specs.Network.{IsNetwork}
 use Rattle.census.specs.declared.Census.{Census}
 use Rattle.census.specs.Census.{encode}
-use Rattle.bnw.specs.declared.FileRead.{FileRead}
+use Rattle.bonds.specs.declared.NetworkRead.{NetworkRead}
+use Rattle.bonds.proofs.Readings.{read-network}
 use Rattle.bnw.specs.Reading.{ReadOutcome}
-use Rattle.bnw.proofs.RoundTrips.{read-network}
 use Rattle.text.specs.Lines.{listingText, refusalText}
 use Rattle.report.specs.Report.{tableWords, FileText, Responds}
 use Rattle.report.proofs.Fits.{file-text-fits}
@@ -20,7 +20,7 @@ use Rattle.report.proofs.OneText.{file-text-one, responds-one, enough-is-read}
 use Rattle.demands.specs.Program.{ReadingPrinted, RespondMet, RespondFixed}
 use Rattle.demands.proofs.Searches.{lists-rings}
 
-module _ (file text : List ℕ) (F : FileText file text) (table table′ : List ℕ) (r : FileRead) (R : ReadOutcome file table table′ r) (room-read : length table ≡ tableWords) where
+module _ (file text : List ℕ) (F : FileText file text) (table table′ : List ℕ) (r : NetworkRead) (R : ReadOutcome file table table′ r) (room-read : length table ≡ tableWords) where
   -- the file's text is any that reading and listing give
   same : (other : List ℕ) → FileText file other → text ≡ other
   same other G = file-text-one file text other F G
@@ -32,7 +32,7 @@ module _ (file text : List ℕ) (F : FileText file text) (table table′ : List 
         let n = r .atoms in
         let m = r .bonds in
         let t = take (places * n) table′ in
-        let N : IsNetwork n t = read-network file table table′ r R z in
+        let N : IsNetwork n t = read-network R z in
         record {
           refused = λ y. same (refusalText (c .answer)) (file-listed file table table′ r R room-read (refusalText (c .answer)) z (text-refused n m t d d′ l l′ c N O square room y));
           listed = λ y.

@@ -23,9 +23,10 @@ use Rattle.candidate.specs.CandidateOutcome.{noValues, values, RightValues}
 use Rattle.census.specs.declared.Census.{Census}
 use Rattle.census.specs.Census.{noCensus}
 use Rattle.renumber.specs.Outcome.{Renumbered}
-use Rattle.bnw.specs.declared.FileRead.{FileRead}
+use Rattle.bonds.specs.declared.NetworkRead.{NetworkRead}
+use Rattle.bonds.specs.Bonds.{bondsOf}
 use Rattle.bnw.specs.declared.FileWritten.{FileWritten}
-use Rattle.bnw.specs.File.{fileOf, bondsOf}
+use Rattle.bnw.specs.File.{fileOf}
 use Rattle.bnw.specs.Reading.{atomsIn, bondsIn, signed, ReadsAs}
 use Rattle.demands.specs.Refusals.{ValidateSays, DistancesSays, CandidateSays, CountSays, ListSays, RenumberSays, WriteSays}
 use Rattle.demands.specs.FileRefusals.{ReadSays}
@@ -43,7 +44,7 @@ pub record AfterSearch (n : ℕ) (t dist dist′ : List ℕ) (c : Census) : Type
   pub early : ((c .answer .code ≡ 12) ⊎ (c .answer .code ≡ 13) → ⊥) → dist′ ≡ dist
 
 -- nothing is read: but the count field goes with 22 and 23
-pub record NothingRead (file table table′ : List ℕ) (r : FileRead) : Type 0 where
+pub record NothingRead (file table table′ : List ℕ) (r : NetworkRead) : Type 0 where
   pub atoms : r .atoms ≡ 0
   pub bonds : r .bonds ≡ 0
   pub stays : table′ ≡ table
@@ -103,7 +104,7 @@ WriteMet n t file file′ w =
     ((w .bytes ≡ length (fileOf n (bondsOf t))) × (file′ ≡ fileOf n (bondsOf t) ++ drop (w .bytes) file))
     (w .answer)
 
-abbrev pub ReadMet : List ℕ → List ℕ → List ℕ → FileRead → Type 0
+abbrev pub ReadMet : List ℕ → List ℕ → List ℕ → NetworkRead → Type 0
 ReadMet file table table′ r =
     Met (ReadSays file table)
     (NothingRead file table table′ r)

@@ -12,7 +12,8 @@ use lib.IntN.{ℤ, pos, negsuc}
 use lib.ListN.{length, getD}
 use Rattle.network.specs.Maxima.{atomsMost, places}
 use Rattle.network.specs.Chain.{Answers, Check, Accepted}
-use Rattle.bnw.specs.File.{Bond, mark, version, bondsMost, headLength, bondLength}
+use Rattle.bonds.specs.Bonds.{Bond}
+use Rattle.bnw.specs.File.{mark, version, bondsMost, headLength, bondLength}
 use Rattle.bnw.specs.FirstBond.{Misplaced, Ninth, NamesFirstBond}
 use Rattle.bnw.specs.Reading.{versionIn, atomsIn, bondsIn, signed, bondIn}
 

@@ -11,11 +11,11 @@ use Prim.Native.Nat.{ℕ, _*_, _≤_}
 use lib.ListN.{length, take}
 use Rattle.network.specs.Maxima.{places}
 use Rattle.network.specs.Network.{IsNetwork}
-use Rattle.bnw.specs.declared.FileRead.{FileRead}
+use Rattle.bonds.specs.declared.NetworkRead.{NetworkRead}
 use Rattle.demands.specs.declared.ReadAndWritten.{ReadAndWritten}
 use Rattle.demands.specs.Calls.{ReadMet, WriteMet}
 
-abbrev pub rowsRead : FileRead → List ℕ → List ℕ
+abbrev pub rowsRead : NetworkRead → List ℕ → List ℕ
 rowsRead r table′ = take (places * r .atoms) table′
 
 pub record ReadThenWrite (file table table′ lent lent′ : List ℕ) (r : ReadAndWritten) : Type 0 where

@@ -10,7 +10,7 @@ use Rattle.network.specs.declared.Answer.{Answer}
 use Rattle.network.specs.Chain.{Answers, OneAnswer}
 use Rattle.candidate.specs.declared.Tested.{Tested}
 use Rattle.census.specs.declared.Census.{Census}
-use Rattle.bnw.specs.declared.FileRead.{FileRead}
+use Rattle.bonds.specs.declared.NetworkRead.{NetworkRead}
 use Rattle.bnw.specs.declared.FileWritten.{FileWritten}
 use Rattle.demands.specs.Refusals.{ValidateSays, DistancesSays, CandidateSays, CountSays, ListSays, RenumberSays, WriteSays}
 use Rattle.demands.specs.FileRefusals.{ReadSays}
@@ -46,4 +46,4 @@ abbrev pub WriteFixed : Type 0
 WriteFixed = (n : ℕ) (t file : List ℕ) → Fixed (WriteSays n t file) (λ (o : FileWritten × List ℕ). WriteMet n t file (o .1) (o .0))
 
 abbrev pub ReadFixed : Type 0
-ReadFixed = (file table : List ℕ) → Fixed (ReadSays file table) (λ (o : FileRead × List ℕ). ReadMet file table (o .1) (o .0))
+ReadFixed = (file table : List ℕ) → Fixed (ReadSays file table) (λ (o : NetworkRead × List ℕ). ReadMet file table (o .1) (o .0))

@@ -19,7 +19,8 @@ use Rattle.ring.specs.Maxima.{ringLeast, ringMost, allowanceMost}
 use Rattle.candidate_faults.specs.FirstPlaces.{Sized, NotAtom, Repeated, Unbonded}
 use Rattle.census.specs.Census.{limitOf}
 use Rattle.names.specs.Names.{BadName}
-use Rattle.bnw.specs.File.{fileOf, bondsOf}
+use Rattle.bonds.specs.Bonds.{bondsOf}
+use Rattle.bnw.specs.File.{fileOf}
 
 abbrev pub OfRings : List ℕ → ℕ → (List (List ℕ) → Answers) → Answers
 OfRings t limit Later a = (rings : List (List ℕ)) × RingListing (Bonded t) (limitOf limit) rings × Later rings a

@@ -19,9 +19,9 @@ use Rattle.census.specs.declared.Census.{Census}
 use Rattle.census.specs.Census.{limitOf, encode, countsBy, countsOf, censusOf, afterList, ListOutcome}
 use Rattle.census.proofs.Passed.{limit-default}
 use Rattle.census.proofs.Settled.{reached, told-list, room-enough, encode-words}
-use Rattle.bnw.specs.File.{tableOf}
+use Rattle.bonds.specs.Bonds.{tableOf}
+use Rattle.bonds.proofs.Tables.{table-network}
 use Rattle.bnw.specs.Reading.{readVerdict}
-use Rattle.bnw.proofs.Tables.{table-network}
 use Rattle.text.specs.Lines.{sizesText, ringText, countsText, totalText, refusalText}
 use Rattle.text.proofs.Lengths.{Short, sizes-length, rings-length, counts-length, total-length, refusal-length}
 use Rattle.report.specs.Report.{tableWords, listWords, textBytes, ringsText, ListingText, FileText, Responds}

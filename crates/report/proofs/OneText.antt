@@ -17,7 +17,8 @@ use Rattle.network.specs.declared.Answer.{Answer}
 use Rattle.network.specs.Network.{Bonded}
 use Rattle.ring.specs.Maxima.{allowanceMost}
 use Rattle.census.specs.Census.{limitOf, afterList}
-use Rattle.bnw.specs.File.{Bond, fileOf, tableOf}
+use Rattle.bonds.specs.Bonds.{Bond, tableOf}
+use Rattle.bnw.specs.File.{fileOf}
 use Rattle.bnw.specs.Reading.{Bytes, readVerdict}
 use Rattle.bnw.proofs.RoundTrips.{file-atoms, file-bonds}
 use Rattle.bnw.proofs.Longer.{longer-refused, first-judged}
@@ -35,7 +36,7 @@ file-text-one file s u F G =
     elim (ℕ-discrete (readVerdict file tableWords .code) 0) [
       | yes y ↦ (let A = F .accepted y in
           let B = G .accepted y in
-          let e : fileOf (A .atoms) (A .bonds) ≡ fileOf (B .atoms) (B .bonds) = sym (A .format) ∙ B .format in
+          let e : fileOf (A .atoms) (A .bonds) ≡ fileOf (B .atoms) (B .bonds) = sym (A .gives) ∙ B .gives in
           let atoms : B .atoms ≡ A .atoms = sym (file-atoms (A .atoms) (B .atoms) (A .bonds) (B .bonds) e) in
           let bonds : B .bonds ≡ A .bonds = sym (file-bonds (A .atoms) (B .atoms) (A .bonds) (B .bonds) e) in
           listing-text-one (A .atoms) (length (A .bonds)) (tableOf (A .atoms) (A .bonds)) s u (A .lists)

@@ -16,10 +16,10 @@ use Rattle.census.specs.declared.Census.{Census}
 use Rattle.census.specs.Census.{encodeBy, encode, countsOf, censusOf, afterList, Searched, ListOutcome}
 use Rattle.census.proofs.Passed.{limit-default, reached-exactly}
 use Rattle.census.proofs.Settled.{code, told-accepted, told-refused, room-enough}
-use Rattle.bnw.specs.declared.FileRead.{FileRead}
-use Rattle.bnw.specs.File.{tableOf}
+use Rattle.bonds.specs.declared.NetworkRead.{NetworkRead}
+use Rattle.bonds.specs.Bonds.{tableOf}
+use Rattle.bonds.proofs.Readings.{table-is}
 use Rattle.bnw.specs.Reading.{readVerdict, ReadOutcome}
-use Rattle.bnw.proofs.RoundTrips.{table-is}
 use Rattle.page.specs.declared.Pen.{Pen}
 use Rattle.page.specs.Page.{Page, page, firstPen, putAll}
 use Rattle.page.proofs.Pages.{text-fits}
@@ -110,7 +110,7 @@ module _ (n bonds : ℕ) (t d d′ l l′ : List ℕ) (c : Census) (N : IsNetwor
         }
 
 -- reading a file into a table of the most words, and listing the network that it gives, gives the file's text
-module _ (file table table′ : List ℕ) (r : FileRead) (R : ReadOutcome file table table′ r) (words : length table ≡ tableWords) where
+module _ (file table table′ : List ℕ) (r : NetworkRead) (R : ReadOutcome file table table′ r) (words : length table ≡ tableWords) where
   verdict-is : r .answer ≡ readVerdict file tableWords
   verdict-is = R .verdict ∙ ap (readVerdict file) words
 
@@ -130,8 +130,8 @@ module _ (file table table′ : List ℕ) (r : FileRead) (R : ReadOutcome file t
           bonds = A .list;
           counted = A .counted;
           valid = A .valid;
-          format = A .format;
-          lists = subst (λ (m : ℕ). ListingText (r .atoms) m (tableOf (r .atoms) (A .list)) text) (A .number) (subst (λ (t : List ℕ). ListingText (r .atoms) (r .bonds) t text) (table-is file table table′ r R z) L);
+          gives = A .gives;
+          lists = subst (λ (m : ℕ). ListingText (r .atoms) m (tableOf (r .atoms) (A .list)) text) (A .number) (subst (λ (t : List ℕ). ListingText (r .atoms) (r .bonds) t text) (table-is R z) L);
         };
       }
 

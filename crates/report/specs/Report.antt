@@ -25,8 +25,9 @@ use Rattle.network.specs.Maxima.{atomsMost, places}
 use Rattle.network.specs.Network.{Bonded, Counted}
 use Rattle.ring.specs.Maxima.{allowanceMost}
 use Rattle.census.specs.Census.{limitOf, countsOf, afterList}
-use Rattle.bnw.specs.File.{Bond, headLength, bondLength, bondsMost, fileOf, ValidBonds, tableOf}
-use Rattle.bnw.specs.Reading.{readVerdict}
+use Rattle.bonds.specs.Bonds.{Bond, ValidBonds, tableOf}
+use Rattle.bnw.specs.File.{headLength, bondLength, bondsMost}
+use Rattle.bnw.specs.Reading.{readVerdict, IsFile}
 use Rattle.text.specs.Lines.{sizesText, ringText, countsText, totalText, refusalText}
 
 abbrev pub fileBytes : ℕ
@@ -57,7 +58,7 @@ pub record NetworkText (file text : List ℕ) : Type 0 where
   pub bonds : List Bond
   pub counted : Counted atoms
   pub valid : ValidBonds atoms bonds
-  pub format : file ≡ fileOf atoms bonds
+  pub gives : IsFile file atoms bonds
   pub lists : ListingText atoms (length bonds) (tableOf atoms bonds) text
 
 pub record FileText (file text : List ℕ) : Type 0 where

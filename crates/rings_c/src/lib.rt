@@ -2,8 +2,8 @@
 //
 // Each function passes on one call and has that call's contract; a slice crosses as pointer and length, an
 // answer that holds an enum as a flat struct (`flat`).
-use bnw::FileRead;
 use bnw::FileWritten;
+use bonds::NetworkRead;
 use flat::FlatCandidate;
 use flat::FlatCensus;
 use network::Answer;
@@ -94,7 +94,7 @@ pub extern "C" fn rings_renumber(
 
 // The network of a file.
 #[no_mangle]
-pub extern "C" fn rings_read(file: &[u8], table: &mut [u16]) -> FileRead
+pub extern "C" fn rings_read(file: &[u8], table: &mut [u16]) -> NetworkRead
     ensures { λ r. ⌜ ReadOutcome (now (file .entry)) (now (table .entry)) (now (table .exit)) r ⌝ }
 {
     bnw_reader::read(file, table)

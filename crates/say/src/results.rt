@@ -1,7 +1,7 @@
 // Printing of what calls answer: a census of rings, and what the reader of a file tells.
 use averages::Averages;
 use averages::Mean;
-use bnw::FileRead;
+use bonds::NetworkRead;
 use census::Census;
 use ring::Ring;
 
@@ -58,7 +58,7 @@ fn count(k: usize, rings: u32) {
 }
 
 // The answer, atoms, bonds, and the count field of a refused file.
-pub fn reading(reading: FileRead) {
+pub fn reading(reading: NetworkRead) {
     crate::text(b"read");
     crate::answer(reading.answer);
     crate::number(reading.atoms);

@@ -1,7 +1,7 @@
 use mathlib.Core.Path.{refl}
 use native.Mathlib.Omega.{arith}
 use borrow.Author.Needs.{needs}
-use Rattle.bnw.proofs.RoundTrips.{read-network}
+use Rattle.bonds.proofs.Readings.{read-network}
 use Rattle.report.proofs.Fits.{part-length}
 use Rattle.report.proofs.Texts.{responds-short, responds-refusal, responds-network}
 use Rattle.report.proofs.respond.Statement.{statement}
@@ -37,7 +37,7 @@ slice-aggregate-list c =
     part-length _ _ (omega (arith, few, c .before .before .before .before .before .read .kept .1 .0))
 
 list-requires : tie.Need-list-requires
-list-requires c κs = (read-network _ _ _ _ (c .before .before .before .before .before .before .read .ensures) (c .before .before .if2 .left), c .before .before .before .before .before .before .before .before .if1 .left)
+list-requires c κs = (read-network (c .before .before .before .before .before .before .read .ensures) (c .before .before .if2 .left), c .before .before .before .before .before .before .before .before .if1 .left)
 
 same-length-2 : tie.Need-same-length-2
 same-length-2 c = search needs

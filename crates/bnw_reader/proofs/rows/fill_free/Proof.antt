@@ -4,7 +4,7 @@ use borrow.Author.Needs.{needs}
 use lib.ListN.{length, replicate}
 use lib.Seq.{sets}
 use Rattle.network.specs.Maxima.{free}
-use Rattle.bnw.proofs.Runs.{free-start, free-more, free-done}
+use Rattle.bonds.proofs.Runs.{free-start, free-more, free-done}
 use Rattle.bnw_reader.proofs.rows.fill_free.Statement.{statement}
 use Rattle.bnw_reader.proofs.rows.fill_free.Tie as tie
 

@@ -1,4 +1,4 @@
-use Rattle.bnw.proofs.Partners.{fits-first, fits-second, past-first, fills-first, past-second, fills-second, past-none, fills-none}
+use Rattle.bonds.proofs.Partners.{fits-first, fits-second, past-first, fills-first, past-second, fills-second, past-none, fills-none}
 use borrow.Author.Needs.{needs}
 use Rattle.bnw_reader.proofs.rows.fill_partner.Statement.{statement}
 use Rattle.bnw_reader.proofs.rows.fill_partner.Tie as tie

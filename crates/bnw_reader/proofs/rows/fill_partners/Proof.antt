@@ -1,4 +1,5 @@
-use Rattle.bnw.proofs.Partners.{partners-fit, ends-more, fills-more, ends-done, fills-done}
+use Rattle.bonds.specs.Bonds.{partners, bondsBelow}
+use Rattle.bonds.proofs.Partners.{partners-fit, ends-more, fills-more, ends-done, fills-done}
 use mathlib.Core.Path.{refl}
 use borrow.Author.Needs.{needs}
 use Prim.Native.Nat.{_≤_, _-_, _+_, _*_}
@@ -7,8 +8,7 @@ use native.Mathlib.Omega.{arith}
 use lib.ListN.{length}
 use lib.Seq.{sets}
 use Rattle.network.specs.Maxima.{places}
-use Rattle.bnw.specs.File.{partners}
-use Rattle.bnw.specs.Reading.{bondIn, bondsBelow}
+use Rattle.bnw.specs.Reading.{bondIn}
 use Rattle.bnw_reader.proofs.rows.fill_partners.Statement.{statement}
 use Rattle.bnw_reader.proofs.rows.fill_partners.Tie as tie
 

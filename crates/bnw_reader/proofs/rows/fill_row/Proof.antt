@@ -1,4 +1,4 @@
-use Rattle.bnw.proofs.Partners.{row-filled}
+use Rattle.bonds.proofs.Partners.{row-filled}
 use borrow.Author.Needs.{needs}
 use Rattle.bnw_reader.proofs.rows.fill_row.Statement.{statement}
 use Rattle.bnw_reader.proofs.rows.fill_row.Tie as tie

@@ -4,9 +4,9 @@ use native.Mathlib.Omega.{arith}
 use borrow.Author.Needs.{needs}
 use lib.ListN.{length}
 use lib.Seq.{sets}
-use Rattle.bnw.specs.File.{tableOf}
-use Rattle.bnw.specs.Reading.{bondIn, bondsBelow}
-use Rattle.bnw.proofs.Partners.{table-start, table-filled, table-done}
+use Rattle.bonds.specs.Bonds.{tableOf, bondsBelow}
+use Rattle.bonds.proofs.Partners.{table-start, table-filled, table-done}
+use Rattle.bnw.specs.Reading.{bondIn}
 use Rattle.bnw_reader.proofs.rows.fill_table.Statement.{statement}
 use Rattle.bnw_reader.proofs.rows.fill_table.Tie as tie
 

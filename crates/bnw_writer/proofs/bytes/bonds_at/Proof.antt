@@ -1,5 +1,5 @@
 use native.Mathlib.Omega.{arith}
-use Rattle.bnw.proofs.TableBonds.{no-bond-free, one-bond, no-bond-below}
+use Rattle.bonds.proofs.TableBonds.{no-bond-free, one-bond, no-bond-below}
 use borrow.Author.Needs.{needs}
 use Rattle.bnw_writer.proofs.bytes.bonds_at.Statement.{statement}
 use Rattle.bnw_writer.proofs.bytes.bonds_at.Tie as tie

@@ -4,8 +4,8 @@ use mathlib.Core.Path.{_≡_, refl}
 use native.Mathlib.Omega.{arith}
 use lib.ListN.{length}
 use Rattle.graph.specs.Lists.{gather, numbersFrom}
-use Rattle.bnw.specs.File.{bondAt}
-use Rattle.bnw.proofs.TableBonds.{counted-more, counted-done}
+use Rattle.bonds.specs.Bonds.{bondAt}
+use Rattle.bonds.proofs.TableBonds.{counted-more, counted-done}
 use Rattle.bnw_writer.proofs.bytes.count_bonds.Statement.{statement}
 use Rattle.bnw_writer.proofs.bytes.count_bonds.Tie as tie
 

@@ -1,6 +1,6 @@
 use Prim.Native.Nat.{_+_, _<_}
 use lib.ListN.{length}
-use Rattle.bnw.proofs.TableBonds.{none-past, none-written, bond-fits, bond-past, bond-written}
+use Rattle.bnw.proofs.WrittenBonds.{none-past, none-written, bond-fits, bond-past, bond-written}
 use native.Mathlib.Omega.{arith}
 use borrow.Author.Needs.{needs}
 use Rattle.bnw_writer.proofs.bytes.write_bond.Statement.{statement}

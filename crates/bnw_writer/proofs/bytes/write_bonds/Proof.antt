@@ -1,4 +1,6 @@
-use Rattle.bnw.proofs.TableBonds.{bonds-fit, past-more, written-more, written-done}
+use Rattle.bonds.specs.Bonds.{bondAt}
+use Rattle.bonds.proofs.TableBonds.{bonds-fit}
+use Rattle.bnw.proofs.WrittenBonds.{past-more, written-more, written-done}
 use borrow.Author.Needs.{needs}
 use Prim.Native.Nat.{_≤_, _-_, _+_, _*_}
 use mathlib.Core.Path.{_≡_, refl}
@@ -6,7 +8,7 @@ use native.Mathlib.Omega.{arith}
 use lib.ListN.{length}
 use lib.Seq.{sets}
 use Rattle.graph.specs.Lists.{gather, numbersFrom}
-use Rattle.bnw.specs.File.{bondAt, bondBytes, headLength, bondLength}
+use Rattle.bnw.specs.File.{bondBytes, headLength, bondLength}
 use Rattle.bnw_writer.proofs.bytes.write_bonds.Statement.{statement}
 use Rattle.bnw_writer.proofs.bytes.write_bonds.Tie as tie
 

@@ -1,4 +1,4 @@
-use Rattle.bnw.proofs.TableBonds.{head-written}
+use Rattle.bnw.proofs.WrittenBonds.{head-written}
 use borrow.Author.Needs.{needs}
 use Rattle.bnw_writer.proofs.bytes.write_head.Statement.{statement}
 use Rattle.bnw_writer.proofs.bytes.write_head.Tie as tie

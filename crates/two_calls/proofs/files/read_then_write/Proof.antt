@@ -1,7 +1,8 @@
 use borrow.Author.Needs.{needs}
 use native.Mathlib.Omega.{arith}
 use lib.ListN.{length-take}
-use Rattle.demands.proofs.FilesReturn.{rows-inside, read-then-write}
+use Rattle.bonds.proofs.Readings.{rows-inside}
+use Rattle.demands.proofs.FilesReturn.{read-then-write}
 use Rattle.two_calls.proofs.files.read_then_write.Statement.{statement}
 use Rattle.two_calls.proofs.files.read_then_write.Tie as tie
 
@@ -9,13 +10,13 @@ read-requires : tie.Need-read-requires
 read-requires c κs = search needs
 
 mul-words : tie.Need-mul-words
-mul-words c = record { fits = omega (arith, rows-inside _ _ _ _ (c .before .before .before .read .ensures)) }
+mul-words c = record { fits = omega (arith, rows-inside (c .before .before .before .read .ensures)) }
 
 slice-reshare-prefix-write : tie.Need-slice-reshare-prefix-write
-slice-reshare-prefix-write c = omega (arith, rows-inside _ _ _ _ (c .before .before .before .read .ensures))
+slice-reshare-prefix-write c = omega (arith, rows-inside (c .before .before .before .read .ensures))
 
 slice-aggregate-write : tie.Need-slice-aggregate-write
-slice-aggregate-write c = simp length-take (omega (arith, rows-inside _ _ _ _ (c .before .before .before .before .read .ensures)))
+slice-aggregate-write c = simp length-take (omega (arith, rows-inside (c .before .before .before .before .read .ensures)))
 
 write-requires : tie.Need-write-requires
 write-requires c κs = search needs

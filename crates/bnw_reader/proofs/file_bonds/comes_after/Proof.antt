@@ -1,7 +1,7 @@
 use Rattle.bnw.proofs.BondFaults.{follows-none, follows-above, follows-below, follows-second}
 use borrow.Author.Needs.{needs}
-use Rattle.bnw_reader.proofs.bonds.comes_after.Statement.{statement}
-use Rattle.bnw_reader.proofs.bonds.comes_after.Tie as tie
+use Rattle.bnw_reader.proofs.file_bonds.comes_after.Statement.{statement}
+use Rattle.bnw_reader.proofs.file_bonds.comes_after.Tie as tie
 
 returns : tie.Need-returns
 returns c = search follows-none

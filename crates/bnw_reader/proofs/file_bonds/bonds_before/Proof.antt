@@ -3,11 +3,11 @@ use Prim.Native.Nat.{_≤_, _-_}
 use mathlib.Core.Path.{_≡_}
 use native.Mathlib.Omega.{arith}
 use lib.ListN.{length}
-use Rattle.bnw.specs.File.{partners}
-use Rattle.bnw.specs.Reading.{bondIn, bondsBelow}
-use Rattle.bnw.proofs.Partners.{partners-start, counts-more, counts-done}
-use Rattle.bnw_reader.proofs.bonds.bonds_before.Statement.{statement}
-use Rattle.bnw_reader.proofs.bonds.bonds_before.Tie as tie
+use Rattle.bonds.specs.Bonds.{partners, bondsBelow}
+use Rattle.bonds.proofs.Partners.{partners-start, counts-more, counts-done}
+use Rattle.bnw.specs.Reading.{bondIn}
+use Rattle.bnw_reader.proofs.file_bonds.bonds_before.Statement.{statement}
+use Rattle.bnw_reader.proofs.file_bonds.bonds_before.Tie as tie
 
 abbrev Inv-loop : tie.InvT-loop
 Inv-loop file k x many₀ j₀ many j = (j ≤ k) × (many ≡ length (partners (bondsBelow (bondIn file) j) x)) × (many ≤ j)

@@ -1,6 +1,6 @@
--- Both ways: from bonds to their table and its bonds, and from a network to its bonds and their table.
+-- Both ways: from bonds to their table and its bonds, and from a network to its bonds and their table. Bonds are told by the atoms they join.
 use mathlib.Core.Path.{_≡_, refl, sym, _∙_, ap, ap₂, subst}
-use mathlib.Core.Logic.{inl, inr}
+use mathlib.Core.Logic.{_↔_, inl, inr}
 use mathlib.Core.Bool.{Bool, true, false, not}
 use mathlib.Core.List.{List, [], _∷_, _++_, List·Memᴰ·head, List·Memᴰ·not-nil, List·Memᴰ·eq-of-singleton}
 use Prim.Native.Nat.{ℕ, zero, suc, _+_, _-_, _*_, _/_, _%_, _≤_, _<_, min}
@@ -16,11 +16,11 @@ use Rattle.graph.proofs.Lists.{gather-of, gather-has, gather-ascending, count-o
 use Rattle.network.specs.Maxima.{places, free}
 use Rattle.network.specs.Network.{word, Bonded, Counted, IsNetwork, neighbours}
 use Rattle.network.proofs.Bonds.{bonded-neighbour, neighbour-bonded, bonded-to, bonded-back, bonded-other, finite}
-use Rattle.bnw.specs.File.{Bond, EarlierBond, bondAt, bondsOf, partners, ValidBonds, rowOf, tableOf}
-use Rattle.bnw.proofs.Runs.{gather-more}
-use Rattle.bnw.proofs.TableBonds.{bond-above, bond-below, bond-is}
-use Rattle.bnw.proofs.Valid.{earlier-not, earlier-on}
-use Rattle.bnw.proofs.Tables.{bond, Joined, partners-of, partners-has, partners-ascend, joined-bonded, bonded-joined, table-network}
+use Rattle.bonds.specs.Bonds.{Bond, bond, EarlierBond, Joined, bondAt, bondsOf, partners, ValidBonds, rowOf, tableOf}
+use Rattle.bonds.proofs.Runs.{gather-more}
+use Rattle.bonds.proofs.Order.{earlier-not, earlier-on}
+use Rattle.bonds.proofs.TableBonds.{bond-above, bond-below, bond-is}
+use Rattle.bonds.proofs.Tables.{partners-of, partners-has, partners-ascend, joined-bonded, bonded-joined, table-network}
 
 -- a bond at word i
 module _ (t : List ℕ) (i : ℕ) (b : Bond) (m : b ∈ bondAt t i) where
@@ -197,13 +197,21 @@ module _ (n : ℕ) (t : List ℕ) (N : IsNetwork n t) where
   unfolding tableOf
   table-back = rows-are n (omega arith) ∙ take-all (n * places) t (omega (arith, N .whole))
 
+-- valid bonds that join the same atoms are the same
+pub valid-unique : (n : ℕ) (bonds more : List Bond) → ValidBonds n bonds → ValidBonds n more → ((x y : ℕ) → Joined bonds x y ↔ Joined more x y) → bonds ≡ more
+valid-unique n bonds more B C same =
+    ascending-unique EarlierBond earlier-not earlier-on bonds more (B .ascends) (C .ascends)
+    (λ b m. stands more C b (B .ordered b m) (same (b .first) (b .second) .0 (inl m)))
+    (λ b m. stands bonds B b (C .ordered b m) (same (b .first) (b .second) .1 (inl m)))
+  where
+    stands : (bs : List Bond) → ValidBonds n bs → (b : Bond) → b .first < b .second → Joined bs (b .first) (b .second) → b ∈ bs
+    stands bs D b l (inl h) = h
+    stands bs D b l (inr h) = absurd (omega (arith, D .ordered (bond (b .second) (b .first)) h))
+
 -- from bonds to their table and back
 pub bonds-back : (n : ℕ) (bonds : List Bond) → Counted n → ValidBonds n bonds → bondsOf (tableOf n bonds) ≡ bonds
 bonds-back n bonds C B =
-    ascending-unique EarlierBond earlier-not earlier-on (bondsOf (tableOf n bonds)) bonds (bonds-ascend n (tableOf n bonds) (table-network n bonds C B)) (B .ascends)
-    (λ b m. let r = bonds-bonded (tableOf n bonds) b m in back b (r .0) (bonded-joined n bonds C B (b .first) (b .second) (r .1)))
-    (λ b m. bonded-bonds (tableOf n bonds) (b .first) (b .second) (B .ordered b m) (joined-bonded n bonds C B (b .first) (b .second) (inl m)))
-  where
-    back : (b : Bond) → b .first < b .second → Joined bonds (b .first) (b .second) → b ∈ bonds
-    back b l (inl h) = h
-    back b l (inr h) = absurd (omega (arith, B .ordered (bond (b .second) (b .first)) h))
+    let t = tableOf n bonds in
+    let N : IsNetwork n (tableOf n bonds) = table-network n bonds C B in
+    valid-unique n (bondsOf t) bonds (bonds-valid n t N) B
+    (λ x y. (λ j. bonded-joined n bonds C B x y (joined-bond n t N x y j), λ j. bond-joined n t N x y (joined-bonded n bonds C B x y j)))

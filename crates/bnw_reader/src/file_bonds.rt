@@ -5,8 +5,10 @@ use network::Network;
 ghost use mathlib.Core.Path.{_≡_};
 ghost use Prim.Native.Nat.{suc, _+_, _*_, _≤_, _<_};
 ghost use lib.ListN.{length};
-ghost use Rattle.bnw.specs.File.{partner, partners, headLength, bondLength};
-ghost use Rattle.bnw.specs.Reading.{bondIn, bondsBelow, inOrder, fileBondFault, firstBond};
+ghost use Rattle.bonds.specs.Bonds.{partner, partners, bondsBelow};
+ghost use Rattle.bonds.specs.Scan.{firstBond};
+ghost use Rattle.bnw.specs.File.{headLength, bondLength};
+ghost use Rattle.bnw.specs.Reading.{bondIn, inOrder, fileBondFault};
 
 // The first of refusals 26 and 27 among the bonds of a file.
 pub fn bond_faults(n: usize, file: &[u8], bonds: usize) -> Answer

@@ -1,7 +1,7 @@
-use Rattle.bnw.proofs.Partners.{one-first, one-second, one-none}
+use Rattle.bonds.proofs.Partners.{one-first, one-second, one-none}
 use borrow.Author.Needs.{needs}
-use Rattle.bnw_reader.proofs.bonds.bonds_at.Statement.{statement}
-use Rattle.bnw_reader.proofs.bonds.bonds_at.Tie as tie
+use Rattle.bnw_reader.proofs.file_bonds.bonds_at.Statement.{statement}
+use Rattle.bnw_reader.proofs.file_bonds.bonds_at.Tie as tie
 
 first-atom-requires : tie.Need-first-atom-requires
 first-atom-requires c κs = search needs

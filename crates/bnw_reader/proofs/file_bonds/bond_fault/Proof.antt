@@ -3,8 +3,8 @@ use native.Mathlib.Omega.{arith}
 use Rattle.network.specs.Maxima.{places}
 use Rattle.bnw.proofs.BondFaults.{fault-first, fault-second, fault-order, fault-after, fault-ninth-first, fault-ninth-second, fault-none}
 use borrow.Author.Needs.{needs}
-use Rattle.bnw_reader.proofs.bonds.bond_fault.Statement.{statement}
-use Rattle.bnw_reader.proofs.bonds.bond_fault.Tie as tie
+use Rattle.bnw_reader.proofs.file_bonds.bond_fault.Statement.{statement}
+use Rattle.bnw_reader.proofs.file_bonds.bond_fault.Tie as tie
 
 first-atom-requires : tie.Need-first-atom-requires
 first-atom-requires c κs = search needs

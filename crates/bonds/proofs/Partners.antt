@@ -9,9 +9,8 @@ use lib.Seq.{sets}
 use borrow.Author.Tests.{eq-eqb, ne-eqb}
 use Rattle.graph.specs.Lists.{gather, numbersFrom}
 use Rattle.network.specs.Maxima.{places, free}
-use Rattle.bnw.specs.File.{Bond, partner, partners, rowOf, tableOf}
-use Rattle.bnw.specs.Reading.{bondsBelow}
-use Rattle.bnw.proofs.Runs.{gather-one, gather-more, gather-map, gather-fits, map-more, sets-after}
+use Rattle.bonds.specs.Bonds.{Bond, partner, partners, rowOf, tableOf, bondsBelow}
+use Rattle.bonds.proofs.Runs.{gather-one, gather-more, gather-map, gather-fits, map-more, sets-after}
 
 -- `partner` at each way through its tests
 module _ (x : ℕ) (b : Bond) (f : ℕ) (e : f ≡ b .first) where

@@ -11,16 +11,8 @@ use Rattle.graph.specs.Lists.{_∈_, Ascending, gather, numbersFrom}
 use Rattle.graph.proofs.Lists.{gather-of, gather-has, gather-ascending, place-of, at-place}
 use Rattle.network.specs.Maxima.{places, free}
 use Rattle.network.specs.Network.{word, Holds, Bonded, Counted, IsNetwork}
-use Rattle.bnw.specs.File.{Bond, EarlierBond, partner, partners, ValidBonds, rowOf, tableOf}
-use Rattle.bnw.proofs.Partners.{partner-first, partner-second, partner-none, row-length, table-length}
-
--- the bond of two atoms
-abbrev pub bond : ℕ → ℕ → Bond
-bond x y = record { first = x; second = y }
-
--- x and y are the two atoms of a bond
-abbrev pub Joined : List Bond → ℕ → ℕ → Type 0
-Joined bonds x y = (bond x y ∈ bonds) ⊎ (bond y x ∈ bonds)
+use Rattle.bonds.specs.Bonds.{Bond, bond, EarlierBond, Joined, partner, partners, ValidBonds, rowOf, tableOf}
+use Rattle.bonds.proofs.Partners.{partner-first, partner-second, partner-none, row-length, table-length}
 
 -- the partner in a bond
 pub partner-of : (x y : ℕ) (b : Bond) → y ∈ partner x b → ((b .first ≡ x) × (b .second ≡ y)) ⊎ ((b .second ≡ x) × (b .first ≡ y))

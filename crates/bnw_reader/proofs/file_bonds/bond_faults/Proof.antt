@@ -2,10 +2,11 @@ use Prim.Native.Nat.{_≤_, _-_}
 use mathlib.Core.Path.{_≡_}
 use native.Mathlib.Omega.{arith}
 use borrow.Author.Needs.{needs}
-use Rattle.bnw.specs.Reading.{bondIn, fileBondFault, firstBond}
-use Rattle.bnw.proofs.BondFaults.{bonds-start, bonds-here, bonds-next, bonds-never}
-use Rattle.bnw_reader.proofs.bonds.bond_faults.Statement.{statement}
-use Rattle.bnw_reader.proofs.bonds.bond_faults.Tie as tie
+use Rattle.bonds.specs.Scan.{firstBond}
+use Rattle.bonds.proofs.Scan.{bonds-start, bonds-here, bonds-next, bonds-never}
+use Rattle.bnw.specs.Reading.{bondIn, fileBondFault}
+use Rattle.bnw_reader.proofs.file_bonds.bond_faults.Statement.{statement}
+use Rattle.bnw_reader.proofs.file_bonds.bond_faults.Tie as tie
 
 abbrev Inv-loop : tie.InvT-loop
 Inv-loop n file bonds k₀ k = (k ≤ bonds) × (firstBond (fileBondFault n (bondIn file)) bonds 0 ≡ firstBond (fileBondFault n (bondIn file)) (bonds - k) k)
