@@ -74,14 +74,14 @@ negative-text = record {
 }
 
 -- and so of the call: what stands at the front of the lent bytes is the text
-prints : (f text before after : List ℕ) (bytes : ℕ) → FileText f text → textBytes ≤ length before → Responds f before after bytes → take bytes after ≡ text
+prints : (f text before after : List ℕ) (bytes : ℕ) → FileText f text → textBytes ≤ length before → Responds (FileText f) before after bytes → take bytes after ≡ text
 prints f text before after bytes F room R =
     let W = R .written room in
     ap₂ take (W .2 .long) (W .2 .front) ∙ take-at (W .0) (drop (length (W .0)) before) (length (W .0)) refl ∙ file-text-one f (W .0) text (W .1) F
 
 module _ (before after : List ℕ) (bytes : ℕ) (room : textBytes ≤ length before) where
-  pub figure-printed : Responds (file 7 0) before after bytes → take bytes after ≡ nineLines
+  pub figure-printed : Responds (FileText (file 7 0)) before after bytes → take bytes after ≡ nineLines
   figure-printed = prints (file 7 0) nineLines before after bytes figure-text room
 
-  pub negative-printed : Responds (file 255 255) before after bytes → take bytes after ≡ letters "refused 22 0 0\n"
+  pub negative-printed : Responds (FileText (file 255 255)) before after bytes → take bytes after ≡ letters "refused 22 0 0\n"
   negative-printed = prints (file 255 255) (letters "refused 22 0 0\n") before after bytes negative-text room

@@ -14,8 +14,8 @@ use Rattle.bonds.proofs.Readings.{read-network}
 use Rattle.bnw.specs.Reading.{ReadOutcome}
 use Rattle.text.specs.Lines.{listingText, refusalText}
 use Rattle.report.specs.Report.{tableWords, FileText, Responds}
-use Rattle.report.proofs.Fits.{file-text-fits}
-use Rattle.report.proofs.Texts.{listing-of-rings, text-refused, text-listed, file-refused, file-listed}
+use Rattle.report.proofs.Fits.{read-text-fits}
+use Rattle.report.proofs.Texts.{listing-of-rings, text-refused, text-listed, read-refused, read-listed, file-judged}
 use Rattle.report.proofs.OneText.{file-text-one, responds-one, enough-is-read}
 use Rattle.demands.specs.Program.{ReadingPrinted, RespondMet, RespondFixed}
 use Rattle.demands.proofs.Searches.{lists-rings}
@@ -27,14 +27,14 @@ module _ (file text : List ℕ) (F : FileText file text) (table table′ : List 
 
   reading-printed : ReadingPrinted table′ r text
   reading-printed = record {
-    refused = λ z. same (refusalText (r .answer)) (file-refused file table table′ r R room-read z);
+    refused = λ z. same (refusalText (r .answer)) (read-refused (file-judged room-read R) z);
     listed = λ z d d′ l l′ c O square room.
         let n = r .atoms in
         let m = r .bonds in
         let t = take (places * n) table′ in
         let N : IsNetwork n t = read-network R z in
         record {
-          refused = λ y. same (refusalText (c .answer)) (file-listed file table table′ r R room-read (refusalText (c .answer)) z (text-refused n m t d d′ l l′ c N O square room y));
+          refused = λ y. same (refusalText (c .answer)) (read-listed (file-judged room-read R) (refusalText (c .answer)) z (text-refused n m t d d′ l l′ c N O square room y));
           listed = λ y.
               let L = lists-rings n t 0 _ d d′ l l′ c O y in
               let words : c .words ≡ length (encode (L .rings)) = ap (λ (x : Census). x .words) (L .census) in
@@ -44,27 +44,27 @@ module _ (file text : List ℕ) (F : FileText file text) (table table′ : List 
                 L .rings,
                 sym words,
                 L .words ∙ ap (λ (k : ℕ). encode (L .rings) ++ drop k l) (sym words),
-                same text-is (file-listed file table table′ r R room-read text-is z (text-listed n m t d d′ l l′ c N O square room y))
+                same text-is (read-listed (file-judged room-read R) text-is z (text-listed n m t d d′ l l′ c N O square room y))
                     ∙ ap (λ (ws : List ℕ). listingText n m ws (c .counts) (c .total)) words-are
                     ∙ listing-of-rings n m (L .rings) (c .counts) (c .total) (λ s i. omega (arith, L .listing .sound s i .shortest .ring .three)),
               );
         };
   }
 
-pub respond-met : (file out out′ : List ℕ) (bytes : ℕ) → Responds file out out′ bytes → RespondMet file out out′ bytes
+pub respond-met : (file out out′ : List ℕ) (bytes : ℕ) → Responds (FileText file) out out′ bytes → RespondMet file out out′ bytes
 respond-met file out out′ bytes R = record {
   short = R .short;
   printed = λ room.
       let W = R .written room in
-      (W .0, record { of-file = W .1; says = reading-printed file (W .0) (W .1); fits = file-text-fits file (W .0) (W .1) }, W .2);
+      (W .0, record { of-file = W .1; says = reading-printed file (W .0) (W .1); fits = read-text-fits (W .0) (W .1) }, W .2);
 }
 
 pub respond-fixed : RespondFixed
 respond-fixed = record {
-  outcome = λ file out out′ out″ bytes more M P. responds-one file out out′ out″ bytes more (back file out out′ bytes M) (back file out out″ more P);
+  outcome = λ file out out′ out″ bytes more M P. responds-one (file-text-one file) (back file out out′ bytes M) (back file out out″ more P);
   text = file-text-one;
   enough = enough-is-read;
 }
   where
-    back : (file out out′ : List ℕ) (bytes : ℕ) → RespondMet file out out′ bytes → Responds file out out′ bytes
+    back : (file out out′ : List ℕ) (bytes : ℕ) → RespondMet file out out′ bytes → Responds (FileText file) out out′ bytes
     back file out out′ bytes M = record { short = M .short; written = λ room. let P = M .printed room in (P .0, P .1 .of-file, P .2) }

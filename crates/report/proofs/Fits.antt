@@ -19,12 +19,11 @@ use Rattle.census.specs.declared.Census.{Census}
 use Rattle.census.specs.Census.{limitOf, encode, countsBy, countsOf, censusOf, afterList, ListOutcome}
 use Rattle.census.proofs.Passed.{limit-default}
 use Rattle.census.proofs.Settled.{reached, told-list, room-enough, encode-words}
-use Rattle.bonds.specs.Bonds.{tableOf}
+use Rattle.bonds.specs.Bonds.{Bond, tableOf}
 use Rattle.bonds.proofs.Tables.{table-network}
-use Rattle.bnw.specs.Reading.{readVerdict}
 use Rattle.text.specs.Lines.{sizesText, ringText, countsText, totalText, refusalText}
 use Rattle.text.proofs.Lengths.{Short, sizes-length, rings-length, counts-length, total-length, refusal-length}
-use Rattle.report.specs.Report.{tableWords, listWords, textBytes, ringsText, ListingText, FileText, Responds}
+use Rattle.report.specs.Report.{listWords, textBytes, ringsText, ListingText, ReadText, Responds}
 
 pub part-length : (k : ℕ) (l : List ℕ) → k ≤ length l → k ≡ length (take k l)
 part-length k l h = sym (length-take-le k l h)
@@ -85,17 +84,17 @@ listing-text-fits n bonds t text N L =
     ]
 
 -- the text of a file
-pub file-text-fits : (file text : List ℕ) → FileText file text → length text ≤ textBytes
-file-text-fits file text F =
-    elim (ℕ-discrete (readVerdict file tableWords .code) 0) [
+pub read-text-fits : {says : Answer} {Gives : ℕ → List Bond → Type 0} (text : List ℕ) → ReadText says Gives text → length text ≤ textBytes
+read-text-fits {says = says} text F =
+    elim (ℕ-discrete (says .code) 0) [
       | yes y ↦ (let A = F .accepted y in listing-text-fits (A .atoms) (length (A .bonds)) (tableOf (A .atoms) (A .bonds)) text (table-network (A .atoms) (A .bonds) (A .counted) (A .valid)) (A .lists))
-      | no y ↦ omega (arith, ap length (F .refused y), refusal-length (readVerdict file tableWords))
+      | no y ↦ omega (arith, ap length (F .refused y), refusal-length says)
     ]
 
 -- what is answered lies within the bytes lent
-pub responds-inside : (file before after : List ℕ) (bytes : ℕ) → Responds file before after bytes → bytes ≤ length before
-responds-inside file before after bytes R =
+pub responds-inside : {Text : List ℕ → Type 0} {before after : List ℕ} {bytes : ℕ} → ((text : List ℕ) → Text text → length text ≤ textBytes) → Responds Text before after bytes → bytes ≤ length before
+responds-inside {before = before} fits R =
     elim (decLe textBytes (length before)) [
-      | yes room ↦ (let W = R .written room in omega (arith, W .2 .long, file-text-fits file (W .0) (W .1)))
+      | yes room ↦ (let W = R .written room in omega (arith, W .2 .long, fits (W .0) (W .1)))
       | no room ↦ omega (arith, R .short (omega arith) .0)
     ]

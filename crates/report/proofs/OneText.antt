@@ -1,9 +1,10 @@
 -- A file has one text, responding to it has one outcome, and the bytes that the program reads of it are enough.
 --
 --   listing-text-one    two texts of a network are the same
---   file-text-one       two texts of a file are the same
---   responds-one        two outcomes of responding to a file are the same
---   enough-is-read      the text of a file's first `fileBytes` bytes is the text of the file
+--   read-text-one       two texts of a file are the same, where it gives one network
+--   file-text-one       two texts of a network file are the same
+--   responds-one        two outcomes of responding are the same, where there is one text
+--   enough-is-read      the text of a network file's first `fileBytes` bytes is the text of the file
 use mathlib.Core.Path.{_≡_, sym, _∙_, ap, subst}
 use mathlib.Core.Logic.{_↔_}
 use mathlib.Core.List.{List, _++_}
@@ -18,12 +19,12 @@ use Rattle.network.specs.Network.{Bonded}
 use Rattle.ring.specs.Maxima.{allowanceMost}
 use Rattle.census.specs.Census.{limitOf, afterList}
 use Rattle.bonds.specs.Bonds.{Bond, tableOf}
-use Rattle.bnw.specs.File.{fileOf}
+use Rattle.bonds.specs.Outcome.{GivesOne}
 use Rattle.bnw.specs.Reading.{Bytes, readVerdict}
-use Rattle.bnw.proofs.RoundTrips.{file-atoms, file-bonds}
+use Rattle.bnw.proofs.RoundTrips.{file-gives-one}
 use Rattle.bnw.proofs.Longer.{longer-refused, first-judged}
 use Rattle.text.specs.Lines.{refusalText}
-use Rattle.report.specs.Report.{fileBytes, tableWords, listWords, textBytes, settledText, ListingText, FileText, Responds}
+use Rattle.report.specs.Report.{fileBytes, tableWords, listWords, textBytes, settledText, ListingText, ReadText, FileText, Responds}
 
 pub listing-text-one : (n bonds : ℕ) (t s u : List ℕ) → ListingText n bonds t s → ListingText n bonds t u → s ≡ u
 listing-text-one n bonds t s u L M =
@@ -31,25 +32,27 @@ listing-text-one n bonds t s u L M =
     ∙ ap (λ (rings : List (List ℕ)). settledText n bonds (afterList allowanceMost listWords rings) rings) (ring-listing-unique (Bonded t) (limitOf 0) (L .rings) (M .rings) (L .listing) (M .listing))
     ∙ sym (M .says)
 
-pub file-text-one : (file s u : List ℕ) → FileText file s → FileText file u → s ≡ u
-file-text-one file s u F G =
-    elim (ℕ-discrete (readVerdict file tableWords .code) 0) [
+pub read-text-one : {says : Answer} {Gives : ℕ → List Bond → Type 0} → GivesOne Gives → (s u : List ℕ) → ReadText says Gives s → ReadText says Gives u → s ≡ u
+read-text-one {says = says} single s u F G =
+    elim (ℕ-discrete (says .code) 0) [
       | yes y ↦ (let A = F .accepted y in
           let B = G .accepted y in
-          let e : fileOf (A .atoms) (A .bonds) ≡ fileOf (B .atoms) (B .bonds) = sym (A .gives) ∙ B .gives in
-          let atoms : B .atoms ≡ A .atoms = sym (file-atoms (A .atoms) (B .atoms) (A .bonds) (B .bonds) e) in
-          let bonds : B .bonds ≡ A .bonds = sym (file-bonds (A .atoms) (B .atoms) (A .bonds) (B .bonds) e) in
+          let same = single (B .atoms) (A .atoms) (B .bonds) (A .bonds) (B .valid) (A .valid) (B .gives) (A .gives) in
           listing-text-one (A .atoms) (length (A .bonds)) (tableOf (A .atoms) (A .bonds)) s u (A .lists)
-          (subst (λ (bs : List Bond). ListingText (A .atoms) (length bs) (tableOf (A .atoms) bs) u) bonds (subst (λ (n : ℕ). ListingText n (length (B .bonds)) (tableOf n (B .bonds)) u) atoms (B .lists))))
+          (subst (λ (bs : List Bond). ListingText (A .atoms) (length bs) (tableOf (A .atoms) bs) u) (same .1) (subst (λ (n : ℕ). ListingText n (length (B .bonds)) (tableOf n (B .bonds)) u) (same .0) (B .lists))))
       | no y ↦ F .refused y ∙ sym (G .refused y)
     ]
 
-pub responds-one : (file before one other : List ℕ) (m k : ℕ) → Responds file before one m → Responds file before other k → (m ≡ k) × (one ≡ other)
-responds-one file before one other m k R S =
+pub file-text-one : (file s u : List ℕ) → FileText file s → FileText file u → s ≡ u
+file-text-one file = read-text-one (file-gives-one file)
+
+pub responds-one : {Text : List ℕ → Type 0} {before one other : List ℕ} {m k : ℕ} → ((s u : List ℕ) → Text s → Text u → s ≡ u)
+    → Responds Text before one m → Responds Text before other k → (m ≡ k) × (one ≡ other)
+responds-one {before = before} text-one R S =
     elim (decLe textBytes (length before)) [
       | yes room ↦ (let A = R .written room in
           let B = S .written room in
-          let same = file-text-one file (A .0) (B .0) (A .1) (B .1) in
+          let same = text-one (A .0) (B .0) (A .1) (B .1) in
           (A .2 .long ∙ ap length same ∙ sym (B .2 .long), A .2 .front ∙ ap (λ (text : List ℕ). text ++ drop (length text) before) same ∙ sym (B .2 .front)))
       | no room ↦ (let A = R .short (omega arith) in
           let B = S .short (omega arith) in

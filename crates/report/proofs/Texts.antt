@@ -3,7 +3,9 @@ use mathlib.Core.Path.{_≡_, refl, sym, _∙_, ap, ap₂, subst}
 use mathlib.Core.List.{List, [], _∷_, _++_}
 use Prim.Native.Nat.{ℕ, _*_, _≤_, _<_}
 use native.Mathlib.Omega.{arith}
+use native.Mathlib.Decide.{ℕ-discrete}
 use borrow.Author.Tests.{eq-eqb, ne-eqb}
+use lib.IntN.{ℤ}
 use lib.ListN.{length, take, drop}
 use lib.Seq.{take-at}
 use Rattle.graph.specs.Lists.{_∈_, gather}
@@ -17,15 +19,16 @@ use Rattle.census.specs.Census.{encodeBy, encode, countsOf, censusOf, afterList
 use Rattle.census.proofs.Passed.{limit-default, reached-exactly}
 use Rattle.census.proofs.Settled.{code, told-accepted, told-refused, room-enough}
 use Rattle.bonds.specs.declared.NetworkRead.{NetworkRead}
-use Rattle.bonds.specs.Bonds.{tableOf}
+use Rattle.bonds.specs.Bonds.{Bond, tableOf}
+use Rattle.bonds.specs.Outcome.{ReadingOutcome}
 use Rattle.bonds.proofs.Readings.{table-is}
-use Rattle.bnw.specs.Reading.{readVerdict, ReadOutcome}
+use Rattle.bnw.specs.Reading.{readVerdict, readValue, IsFile, ReadOutcome}
 use Rattle.page.specs.declared.Pen.{Pen}
 use Rattle.page.specs.Page.{Page, page, firstPen, putAll}
 use Rattle.page.proofs.Pages.{text-fits}
 use Rattle.text.specs.Lines.{ringText, wordsText, sizesText, countsText, totalText, listingText, refusalText}
 use Rattle.text.proofs.Words.{rings-text}
-use Rattle.report.specs.Report.{tableWords, listWords, textBytes, ringsText, ListingText, FileText, TextStands, ListsText, Responds}
+use Rattle.report.specs.Report.{tableWords, listWords, textBytes, ringsText, ListingText, ReadText, TextStands, ListsText, WritesReading, Responds}
 use Rattle.report.proofs.Fits.{refusal-fits, listing-text-fits}
 
 -- a text that is written from the first byte on stands there, where it fits
@@ -109,22 +112,19 @@ module _ (n bonds : ℕ) (t d d′ l l′ : List ℕ) (c : Census) (N : IsNetwor
           stands = stood text before after p h (omega (arith, listing-text-fits n bonds t text N (text-listed z), room));
         }
 
--- reading a file into a table of the most words, and listing the network that it gives, gives the file's text
-module _ (file table table′ : List ℕ) (r : NetworkRead) (R : ReadOutcome file table table′ r) (words : length table ≡ tableWords) where
-  verdict-is : r .answer ≡ readVerdict file tableWords
-  verdict-is = R .verdict ∙ ap (readVerdict file) words
-
-  pub file-refused : (r .answer .code ≡ 0 → ⊥) → FileText file (refusalText (r .answer))
-  file-refused z = record {
-    refused = λ _. ap refusalText verdict-is;
-    accepted = λ y. absurd (z (ap (λ (a : Answer). a .code) verdict-is ∙ y));
+-- reading a file into a table, and listing the network that it gives, gives the file's text
+module _ {says : Answer} {value : ℕ → ℤ} {Gives : ℕ → List Bond → Type 0} {table table′ : List ℕ} {r : NetworkRead} (R : ReadingOutcome says value Gives table table′ r) where
+  pub read-refused : (r .answer .code ≡ 0 → ⊥) → ReadText says Gives (refusalText (r .answer))
+  read-refused z = record {
+    refused = λ _. ap refusalText (R .verdict);
+    accepted = λ y. absurd (z (ap (λ (a : Answer). a .code) (R .verdict) ∙ y));
   }
 
-  pub file-listed : (text : List ℕ) → r .answer .code ≡ 0 → ListingText (r .atoms) (r .bonds) (take (places * r .atoms) table′) text → FileText file text
-  file-listed text z L =
+  pub read-listed : (text : List ℕ) → r .answer .code ≡ 0 → ListingText (r .atoms) (r .bonds) (take (places * r .atoms) table′) text → ReadText says Gives text
+  read-listed text z L =
       let A = R .accepts z in
       record {
-        refused = λ y. absurd (y (sym (ap (λ (a : Answer). a .code) verdict-is) ∙ z));
+        refused = λ y. absurd (y (sym (ap (λ (a : Answer). a .code) (R .verdict)) ∙ z));
         accepted = λ _. record {
           atoms = r .atoms;
           bonds = A .list;
@@ -135,15 +135,28 @@ module _ (file table table′ : List ℕ) (r : NetworkRead) (R : ReadOutcome fil
         };
       }
 
-  module _ (before after : List ℕ) (room : textBytes ≤ length before) where
-    responds : (text : List ℕ) (bytes : ℕ) → FileText file text → TextStands text before after bytes → Responds file before after bytes
-    responds text bytes F S = record { short = λ h. absurd (omega arith); written = λ _. (text, F, S) }
+  pub responds-reading : {before after : List ℕ} {bytes : ℕ} → textBytes ≤ length before → WritesReading r table′ before after bytes → Responds (ReadText says Gives) before after bytes
+  responds-reading room W = record {
+    short = λ h. absurd (omega arith);
+    written = λ _. elim (ℕ-discrete (r .answer .code) 0) [
+      | yes z ↦ (let L = W .listed z in (L .text, read-listed (L .text) z (L .lists), L .stands))
+      | no z ↦ (refusalText (r .answer), read-refused z, W .refused z)
+    ];
+  }
 
-    pub responds-refusal : (bytes : ℕ) → (r .answer .code ≡ 0 → ⊥) → TextStands (refusalText (r .answer)) before after bytes → Responds file before after bytes
-    responds-refusal bytes z = responds (refusalText (r .answer)) bytes (file-refused z)
+pub responds-short : {Text : List ℕ → Type 0} {before : List ℕ} → length before < textBytes → Responds Text before before 0
+responds-short h = record { short = λ _. (refl, refl); written = λ room. absurd (omega arith) }
 
-    pub responds-network : (bytes : ℕ) → r .answer .code ≡ 0 → ListsText (r .atoms) (r .bonds) (take (places * r .atoms) table′) before after bytes → Responds file before after bytes
-    responds-network bytes z L = responds (L .text) bytes (file-listed (L .text) z (L .lists)) (L .stands)
+-- what is written of a reading, refused or accepted
+module _ {r : NetworkRead} {table before after : List ℕ} {bytes : ℕ} where
+  pub writes-refusal : (r .answer .code ≡ 0 → ⊥) → TextStands (refusalText (r .answer)) before after bytes → WritesReading r table before after bytes
+  writes-refusal z S = record { refused = λ _. S; listed = λ y. absurd (z y) }
 
-pub responds-short : (file before : List ℕ) → length before < textBytes → Responds file before before 0
-responds-short file before h = record { short = λ _. (refl, refl); written = λ room. absurd (omega arith) }
+  pub writes-network : r .answer .code ≡ 0 → ListsText (r .atoms) (r .bonds) (take (places * r .atoms) table) before after bytes → WritesReading r table before after bytes
+  writes-network z L = record { refused = λ y. absurd (y z); listed = λ _. L }
+
+-- a network file, read into a table of the most words, is judged as its text has it
+pub file-judged : {file table table′ : List ℕ} {r : NetworkRead} → length table ≡ tableWords → ReadOutcome file table table′ r
+    → ReadingOutcome (readVerdict file tableWords) (readValue file) (IsFile file) table table′ r
+file-judged {file = file} {table = table} {table′ = table′} {r = r} words R =
+    subst (λ (k : ℕ). ReadingOutcome (readVerdict file k) (readValue file) (IsFile file) table table′ r) words R

@@ -1,13 +1,15 @@
 // What the listing program prints for a network file, as bytes in a lent buffer.
+use bonds::NetworkRead;
 use network::Answer;
 use network::Network;
 use ring::Ring;
 ghost use mathlib.Core.Path.{_≡_};
-ghost use Prim.Native.Nat.{_≤_};
-ghost use lib.ListN.{length};
+ghost use Prim.Native.Nat.{_*_, _≤_};
+ghost use lib.ListN.{length, take};
+ghost use Rattle.network.specs.Maxima.{places};
 ghost use Rattle.network.specs.Network.{IsNetwork};
 ghost use Rattle.text.specs.Lines.{refusalText};
-ghost use Rattle.report.specs.Report.{fileBytes, listWords, textBytes, ListsText, TextStands, Responds};
+ghost use Rattle.report.specs.Report.{fileBytes, listWords, textBytes, FileText, ListsText, TextStands, WritesReading, Responds};
 
 // The bytes of a file that are read: one more than the greatest file has, so that any longer one is refused.
 pub const FILE: usize = bnw::HEAD + bnw::BOND * bnw::BONDS + 1;
@@ -21,13 +23,21 @@ pub const TEXT: usize = 5 * LIST + 1281;
 
 // Writes what is printed for a file, and answers its length. Where fewer than TEXT bytes are lent, it writes nothing and answers 0.
 pub fn respond(file: &[u8], out: &mut [u8]) -> usize
-    ensures { λ r. ⌜ Responds (now (file .entry)) (now (out .entry)) (now (out .exit)) r ⌝ }
+    ensures { λ r. ⌜ Responds (FileText (now (file .entry))) (now (out .entry)) (now (out .exit)) r ⌝ }
 {
     if out.len() < TEXT {
         return 0;
     }
     let mut table = [0u16; Network::ATOMS * Network::PLACES];
     let reading = bnw_reader::read(file, &mut table);
+    write_reading(reading, &table, out)
+}
+
+// The text of a reading: the line of the refusal, or the text of the network whose rows stand first in the table.
+fn write_reading(reading: NetworkRead, table: &[u16], out: &mut [u8]) -> usize
+    requires { ⌜ (reading .answer .code ≡ 0 → IsNetwork (reading .atoms) (take (places * reading .atoms) (now table))) × (textBytes ≤ length (now out)) ⌝ }
+    ensures { λ r. ⌜ WritesReading reading (now (table .entry)) (now (out .entry)) (now (out .exit)) r ⌝ }
+{
     let answer = reading.answer;
     if answer.code != 0 {
         return refuse(answer, out);

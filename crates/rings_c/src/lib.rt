@@ -13,7 +13,7 @@ ghost use Rattle.candidate.specs.CandidateOutcome.{CandidateOutcome};
 ghost use Rattle.census.specs.Census.{CountOutcome, ListOutcome};
 ghost use Rattle.bnw.specs.Reading.{ReadOutcome};
 ghost use Rattle.bnw.specs.Writing.{WriteOutcome};
-ghost use Rattle.report.specs.Report.{Responds};
+ghost use Rattle.report.specs.Report.{FileText, Responds};
 ghost use Rattle.distance.specs.Outcome.{DistancesOutcome};
 ghost use Rattle.renumber.specs.Outcome.{RenumberOutcome};
 ghost use Rattle.flat.specs.Flat.{flatCensus, flatCandidate, PassedOn};
@@ -111,7 +111,7 @@ pub extern "C" fn rings_write(n: usize, table: &[u16], file: &mut [u8]) -> FileW
 // What the listing program prints for a file.
 #[no_mangle]
 pub extern "C" fn rings_report(file: &[u8], out: &mut [u8]) -> usize
-    ensures { λ r. ⌜ Responds (now (file .entry)) (now (out .entry)) (now (out .exit)) r ⌝ }
+    ensures { λ r. ⌜ Responds (FileText (now (file .entry))) (now (out .entry)) (now (out .exit)) r ⌝ }
 {
     report::respond(file, out)
 }

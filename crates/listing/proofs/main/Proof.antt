@@ -1,4 +1,4 @@
-use Rattle.report.proofs.Fits.{part-length, responds-inside}
+use Rattle.report.proofs.Fits.{part-length, read-text-fits, responds-inside}
 use mathlib.Core.Path.{sym, subst}
 use Prim.Native.Nat.{ℕ, _≤_}
 use borrow.Author.Needs.{needs}
@@ -24,10 +24,10 @@ respond-requires : tie.Need-respond-requires
 respond-requires c κs = search needs
 
 array-share-prefix-out : tie.Need-array-share-prefix-out
-array-share-prefix-out c = subst (λ (m : ℕ). c .before .respond .result ≤ m) (sym (c .before .respond .kept .1 .0)) (responds-inside _ _ _ _ (c .before .respond .ensures))
+array-share-prefix-out c = subst (λ (m : ℕ). c .before .respond .result ≤ m) (sym (c .before .respond .kept .1 .0)) (responds-inside read-text-fits (c .before .respond .ensures))
 
 slice-aggregate-write-all : tie.Need-slice-aggregate-write-all
-slice-aggregate-write-all c = part-length _ _ (subst (λ (m : ℕ). c .before .before .respond .result ≤ m) (sym (c .before .before .respond .kept .1 .0)) (responds-inside _ _ _ _ (c .before .before .respond .ensures)))
+slice-aggregate-write-all c = part-length _ _ (subst (λ (m : ℕ). c .before .before .respond .result ≤ m) (sym (c .before .before .respond .kept .1 .0)) (responds-inside read-text-fits (c .before .before .respond .ensures)))
 
 write-all-requires : tie.Need-write-all-requires
 write-all-requires c κs = search needs
