@@ -90,6 +90,34 @@ void try_read(const uint8_t *file, size_t file_len, size_t table_len)
     lent_check("rings_read", &table);
 }
 
+/* Counts a molfile by its answer, and an accepted one by its layout. */
+static void count_molfile(const uint8_t *file, size_t file_len, const rings_reading *must_be)
+{
+    tally.molfiles.answers[must_be->answer.code]++;
+    if (must_be->answer.code != 0)
+        return;
+    size_t lines = 0, crlf = 0;
+    for (size_t i = 0; i < file_len; i++) {
+        lines += file[i] == '\n' || i + 1 == file_len;
+        crlf += i > 0 && file[i] == '\n' && file[i - 1] == '\r';
+    }
+    size_t needed = 4 + must_be->atoms + must_be->bonds;
+    tally.molfiles.with_crlf += crlf > 0;
+    tally.molfiles.without_last_end += lines == needed && file[file_len - 1] != '\n';
+    tally.molfiles.with_more_lines += lines > needed;
+}
+
+void try_read_molfile(const uint8_t *file, size_t file_len, size_t table_len)
+{
+    lent bytes = lend_copy("file", 1, file_len, file), table = lend("table", 2, table_len);
+    rings_reading got = rings_read_molfile(lent_to(&bytes), file_len, lent_to(&table), table_len);
+    rings_reading must_be = model_read_molfile(file, file_len, lent_must(&table), table_len);
+    same_reading("rings_read_molfile", &got, &must_be);
+    lent_check("rings_read_molfile", &bytes);
+    lent_check("rings_read_molfile", &table);
+    count_molfile(file, file_len, &must_be);
+}
+
 void try_write(table_lent t, size_t file_len)
 {
     lent table = lend_table(t), bytes = lend("file", 1, file_len);
@@ -100,14 +128,29 @@ void try_write(table_lent t, size_t file_len)
     lent_check("rings_write", &bytes);
 }
 
+/* A report's text, beside the one that the model makes of what its reader takes; whether it could be compared. */
+static bool try_text(const char *call, size_t (*report)(const uint8_t *, size_t, uint8_t *, size_t), model_reader read,
+                     const uint8_t *file, size_t file_len, size_t out_len)
+{
+    if (!model_reports(read, file, file_len))
+        return false;
+    lent bytes = lend_copy("file", 1, file_len, file), out = lend("text", 1, out_len);
+    size_t got = report(lent_to(&bytes), file_len, lent_to(&out), out_len);
+    size_t must_be = model_report(read, file, file_len, lent_must(&out), out_len);
+    same_bytes(call, got, must_be);
+    lent_check(call, &bytes);
+    lent_check(call, &out);
+    return true;
+}
+
 void try_report(const uint8_t *file, size_t file_len, size_t out_len)
 {
-    if (!model_reports(file, file_len))
-        return;
-    lent bytes = lend_copy("file", 1, file_len, file), out = lend("text", 1, out_len);
-    size_t got = rings_report(lent_to(&bytes), file_len, lent_to(&out), out_len);
-    size_t must_be = model_report(file, file_len, lent_must(&out), out_len);
-    same_bytes("rings_report", got, must_be);
-    lent_check("rings_report", &bytes);
-    lent_check("rings_report", &out);
+    try_text("rings_report", rings_report, model_read, file, file_len, out_len);
+}
+
+void try_report_molfile(const uint8_t *file, size_t file_len, size_t out_len)
+{
+    bool compared =
+        try_text("rings_report_molfile", rings_report_molfile, model_read_molfile, file, file_len, out_len);
+    tally.molfiles.texts += compared;
 }

@@ -19,7 +19,11 @@ void try_count(table_lent t, size_t limit, size_t allowance, size_t dist_len);
 void try_list(table_lent t, size_t limit, size_t allowance, size_t dist_len, size_t list_len);
 void try_renumber(table_lent t, const uint16_t *names, size_t names_len, size_t renamed_len);
 void try_read(const uint8_t *file, size_t file_len, size_t table_len);
+void try_read_molfile(const uint8_t *file, size_t file_len, size_t table_len);
 void try_write(table_lent t, size_t file_len);
-void try_report(const uint8_t *file, size_t file_len, size_t out_len); /* only where the model ends in time */
+
+/* What the listing programs print, where the model ends in time. */
+void try_report(const uint8_t *file, size_t file_len, size_t out_len);
+void try_report_molfile(const uint8_t *file, size_t file_len, size_t out_len);
 
 #endif

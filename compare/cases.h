@@ -25,7 +25,22 @@ void case_damaged_file(const network *net);
 /* A file of random bonds, whatever the atoms can hold. (cases_files.c) */
 void case_random_file(void);
 
+/* The network's molfile in any layout. (cases_molfiles.c) */
+void case_molfile(const network *net);
+
+/* The network's molfile with a few bytes or lines damaged. (cases_molfiles.c) */
+void case_damaged_molfile(const network *net);
+
+/* A molfile of random bonds, right or not. (cases_molfiles.c) */
+void case_random_molfile(void);
+
+/* Readings of the network's molfile that must agree with each other. (laws_molfiles.c) */
+void case_molfile_laws(const network *net);
+
 /* The networks whose rings document 01 prints, and those that it asks to run. (known.c) */
 void known_networks(void);
+
+/* The molfiles whose answers the request gives. (known_molfiles.c) */
+void known_molfiles(void);
 
 #endif

@@ -18,7 +18,8 @@ enum {
     MOST_BONDS = 1000,
     HEAD = 9, /* bytes of a file before its bonds */
     BOND = 4, /* bytes of a bond */
-    LAST_REFUSAL = 28,
+    MOLFILE_BONDS = 999, /* most bonds of a molfile */
+    LAST_REFUSAL = 32,
 };
 
 /* A network: which atoms are bonded, the neighbours of each, and how far apart two atoms are. */
@@ -106,11 +107,17 @@ rings_answer model_renumber(size_t n, const uint16_t *table, size_t table_len, c
 rings_reading model_read(const uint8_t *file, size_t file_len, uint16_t *table, size_t table_len);
 rings_written model_write(size_t n, const uint16_t *table, size_t table_len, uint8_t *file, size_t file_len);
 
-/* ---- model_text.c: what the listing program prints */
+/* ---- model_molfile.c: the reader of molfiles */
+
+rings_reading model_read_molfile(const uint8_t *file, size_t file_len, uint16_t *table, size_t table_len);
+
+/* ---- model_text.c: what the listing programs print for a file, as one of the model's readers takes it */
+
+typedef rings_reading (*model_reader)(const uint8_t *file, size_t file_len, uint16_t *table, size_t table_len);
 
 /* Whether the model's search ends in time on the network of a file. */
-bool model_reports(const uint8_t *file, size_t file_len);
+bool model_reports(model_reader read, const uint8_t *file, size_t file_len);
 
-size_t model_report(const uint8_t *file, size_t file_len, uint8_t *out, size_t out_len);
+size_t model_report(model_reader read, const uint8_t *file, size_t file_len, uint8_t *out, size_t out_len);
 
 #endif

@@ -1,4 +1,4 @@
-/* The model's text: what the listing program prints for a network file. */
+/* The model's text: what the listing programs print for a file. */
 #include "model.h"
 
 enum { LIST_WORDS = 32768, ALL_RINGS = 1000000 };
@@ -43,21 +43,21 @@ static void put_counts(const rings_census *census)
     text[end++] = '\n';
 }
 
-bool model_reports(const uint8_t *file, size_t file_len)
+bool model_reports(model_reader read, const uint8_t *file, size_t file_len)
 {
     static uint16_t table[MOST_ATOMS * ROW];
-    rings_reading net = model_read(file, file_len, table, MOST_ATOMS * ROW);
+    rings_reading net = read(file, file_len, table, MOST_ATOMS * ROW);
     return net.answer.code != 0 || model_rings(model_network(net.atoms, table), limit_used(0))->end != OUT_OF_STEPS;
 }
 
-size_t model_report(const uint8_t *file, size_t file_len, uint8_t *out, size_t out_len)
+size_t model_report(model_reader read, const uint8_t *file, size_t file_len, uint8_t *out, size_t out_len)
 {
     static uint16_t table[MOST_ATOMS * ROW], list[LIST_WORDS];
     static uint8_t dist[MOST_ATOMS * MOST_ATOMS];
     if (out_len < RINGS_REPORT_BYTES)
         return 0;
     end = 0;
-    rings_reading net = model_read(file, file_len, table, MOST_ATOMS * ROW);
+    rings_reading net = read(file, file_len, table, MOST_ATOMS * ROW);
     if (net.answer.code != 0) {
         put_refusal(net.answer);
     } else {

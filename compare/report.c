@@ -41,6 +41,13 @@ void report_model(const char *what)
     exit(1);
 }
 
+void report_law(const char *law)
+{
+    differs();
+    printf("the library breaks a law: %s\n", law);
+    exit(1);
+}
+
 /* One whole number of an answer. */
 static void same(const char *call, const char *what, long got, long must_be)
 {
@@ -123,6 +130,19 @@ void same_bytes(const char *call, size_t got, size_t must_be)
     tally.reports++;
 }
 
+/* Prints what was seen of molfiles. */
+static void report_molfiles(void)
+{
+    printf("molfiles: their texts %zu, laws %zu; accepted %zu (with CR LF %zu, without the last line's end %zu, with "
+           "more lines after the bonds %zu); refused, by number:",
+           tally.molfiles.texts, tally.molfiles.laws, tally.molfiles.answers[0], tally.molfiles.with_crlf,
+           tally.molfiles.without_last_end, tally.molfiles.with_more_lines);
+    for (int number = 1; number <= LAST_REFUSAL; number++)
+        if (tally.molfiles.answers[number] > 0)
+            printf(" %d:%zu", number, tally.molfiles.answers[number]);
+    printf("\n");
+}
+
 void report_tallies(void)
 {
     printf("networks %zu, other tables %zu, files %zu, their texts %zu, renumberings %zu, candidates %zu\n",
@@ -136,4 +156,5 @@ void report_tallies(void)
     for (int number = 1; number <= LAST_REFUSAL; number++)
         printf(" %d:%zu", number, tally.refusals[number]);
     printf("\n");
+    report_molfiles();
 }

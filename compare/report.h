@@ -9,6 +9,12 @@ typedef struct {
     size_t cases, calls, networks, tables, files, renumberings, candidates, listings, reports, rings, both_ways;
     size_t refusals[LAST_REFUSAL + 1];     /* by number; 0: accepted */
     size_t listings_with[MOST_LENGTH + 1]; /* accepted listings that hold a ring of this length */
+    struct {
+        size_t answers[LAST_REFUSAL + 1]; /* readings by number; 0: accepted */
+        size_t with_crlf, without_last_end, with_more_lines; /* accepted ones: a line end CR LF, the last line of all
+                                                                without its end, lines after the last bond's */
+        size_t texts, laws;
+    } molfiles;
 } tallies;
 
 extern tallies tally;
@@ -24,6 +30,9 @@ void report_buffer(const char *call, const char *name, long at, long length, uns
 
 /* Ends the run: the two ways of the model, or the model and the document, disagree. */
 void report_model(const char *what);
+
+/* Ends the run: two answers of the library break a law. */
+void report_law(const char *law);
 
 /* Each compares all of an answer, field by field, and counts the call. */
 void same_answer(const char *call, const rings_answer *got, const rings_answer *must_be);

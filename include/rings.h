@@ -91,12 +91,18 @@ enum rings_refusal {
     RINGS_REFUSED_FILE_BOND = 26,     /* A bond's atom is not below the atom count, its first atom not below its
                                          second, or the bond not after the previous one. */
     RINGS_REFUSED_NINTH_BOND = 27,    /* A bond is the ninth on one of its atoms. */
-    RINGS_REFUSED_FILE_BUFFER = 28    /* The byte buffer lent to the writer is too short. */
+    RINGS_REFUSED_FILE_BUFFER = 28,   /* The byte buffer lent to the writer is too short. */
+    RINGS_REFUSED_MOLFILE_LINE = 29,  /* A line of the molfile is missing, or too short for its columns. */
+    RINGS_REFUSED_MOLFILE_MARK = 30,  /* The molfile's counts line has no "V2000" in columns 35 to 39. */
+    RINGS_REFUSED_NUMBER_COLUMN = 31, /* A number column of the molfile is not blanks followed by at least one digit. */
+    RINGS_REFUSED_MOLFILE_BOND = 32   /* A bond line's atom is 0 or above the atom count, its two atoms are the same, or
+                                         the pair was seen earlier, in either direction. */
 };
 
 /* What every call answers: the code, and for some refusals where the fault lies.
  * 7 to 11: row and place in the table of the first fault. 15 to 17: row 0 and the place in the candidate.
- * 18: row 0 and the place in the names. 26 and 27: row 0 and the bond's number in the file, from 0.
+ * 18: row 0 and the place in the names. 26 and 27, and in the bond lines of a molfile 29, 31 and 32: row 0 and the
+ * bond's number in the file, from 0.
  * Everything else: 0 and 0. In a refused call every other number returned is 0, but for `value` at 22 and 23. */
 typedef struct {
     uint8_t code;
@@ -126,7 +132,7 @@ typedef struct {
                                        zeros; otherwise zeros */
 } rings_candidate;
 
-/* What the reader answers. */
+/* What the two readers answer. */
 typedef struct {
     rings_answer answer;
     size_t atoms;  /* the file's atoms */
@@ -184,6 +190,18 @@ rings_answer rings_renumber(size_t n, const uint16_t *table, size_t table_len, c
  * words are enough for any file. */
 rings_reading rings_read(const uint8_t *file, size_t file_len, uint16_t *table, size_t table_len);
 
+/* Reads a molfile (V2000): three header lines of any length; a counts line of at least 39 bytes, with the atom count
+ * in columns 1 to 3, the bond count in 4 to 6 and "V2000" in 35 to 39; a line of any length for each atom; a line of at
+ * least 6 bytes for each bond, its atoms in columns 1 to 3 and 4 to 6, numbered from 1. All else, and all after the
+ * bond lines, is skipped. The bonds may come in any order, their atoms in either; the table is the one they define.
+ * A line ends in LF, or lacks its end as the last of the file; one CR directly before LF is no part of it, any other
+ * CR is a byte like others; nothing after the last LF is no line. Columns are bytes, from 1. A number column is spaces,
+ * then at least one digit, to the end of its three columns: "007" and "  0" are numbers, "7  " and " -1" are not.
+ * Checks: 29 for the header and counts lines, 30, 31 for atoms and then bonds, 22, 25, 29 for a missing atom line; then
+ * bond by bond 29, 31, 32, 27. 23 is not given: any bond count from 0 to 999 is taken. `value` is the atom count at 22.
+ * Fills table as rings_read does. */
+rings_reading rings_read_molfile(const uint8_t *file, size_t file_len, uint16_t *table, size_t table_len);
+
 /* Writes a network as a file, exactly as rings_read reads it.
  * Checks: 1, 4, 7 to 10 place by place, 11, 28. Fills the first `bytes` bytes of file; the rest, and after a
  * refusal all of it, stays as it was. RINGS_FILE_BYTES(RINGS_BONDS) bytes are enough for any network. */
@@ -195,6 +213,10 @@ rings_written rings_write(size_t n, const uint16_t *table, size_t table_len, uin
  * Fills the first bytes of out; the rest stays as it was. Where out_len is under RINGS_REPORT_BYTES it fills nothing and
  * answers 0. */
 size_t rings_report(const uint8_t *file, size_t file_len, uint8_t *out, size_t out_len);
+
+/* The same for a molfile. The call takes all of file; the listing program for molfiles lends it the first 1,048,576 bytes
+ * of what it reads. */
+size_t rings_report_molfile(const uint8_t *file, size_t file_len, uint8_t *out, size_t out_len);
 
 #ifdef __cplusplus
 }

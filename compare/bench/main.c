@@ -1,6 +1,8 @@
 /* The benchmark: the library and the C search on the same networks, in one run. Each time is the best of several
  * runs, in milliseconds: the library's distance table alone, its count, its list, and the list in C; the ratio is the
- * library's time to list over C's. Both must give the same list and the same distances. */
+ * library's time to list over C's. Both must give the same list and the same distances. Then the time to read the
+ * greatest molfile beside the time to list a silica network; the run ends with status 1 if reading takes longer. */
+#include "../molfiles.h"
 #include "../random.h"
 #include "search.h"
 #include "shapes.h"
@@ -123,8 +125,41 @@ static void shapes(void)
     make_layers(&net, 50, 4, true), both_limits("50 layers of 4 in a cycle");
 }
 
+/* The times to read the greatest molfile and to list the network at hand at limit 24, in turns, each the best; prints a
+ * line, and gives whether reading takes no longer. */
+static bool reading_keeps_up(const char *name)
+{
+    static connections said;
+    static molfile file;
+    static uint16_t read[MOST_ATOMS * ROW];
+    double least[2] = {1e30, 1e30};
+    connections_greatest(&said);
+    molfile_saved(&said, &file);
+    network_complete(&net);
+    network_table(&net, table);
+    for (int runs = 0; runs < 50; runs++) {
+        double began = now();
+        rings_reading answer = rings_read_molfile(file.bytes, file.length, read, MOST_ATOMS * ROW);
+        double between = now();
+        search_answer listed = run(LIST, 24);
+        double ended = now();
+        if (answer.answer.code != 0 || answer.bonds != said.bonds || listed.code != 0) {
+            printf("%s: the molfile or the network is refused\n", name);
+            exit(1);
+        }
+        least[0] = between - began < least[0] ? between - began : least[0];
+        least[1] = ended - between < least[1] ? ended - between : least[1];
+    }
+    printf("%-28s %5zu %5d %11.3f %11.3f %6.3f\n", name, net.atoms, 24, least[1], least[0], least[0] / least[1]);
+    if (least[0] <= least[1])
+        return true;
+    puts("reading takes longer than listing");
+    return false;
+}
+
 int main(void)
 {
+    bool kept_up;
     list = malloc(RINGS_LIST_WORDS(ALLOWANCE) * sizeof(uint16_t));
     c_list = malloc(RINGS_LIST_WORDS(ALLOWANCE) * sizeof(uint16_t));
     random_start(1);
@@ -136,5 +171,9 @@ int main(void)
     for (size_t centres = 8; centres <= 80; centres += 8)
         make_glass(&net, centres), measure("silica, amorphous", 24);
     make_glass(&net, 83), measure("silica, amorphous", 24);
-    return 0;
+    puts("\nreading a molfile of 250 atoms and 999 bonds; ratio: reading / list");
+    printf("%-28s %5s %5s %11s %11s %6s\n", "network", "atoms", "limit", "list", "reading", "ratio");
+    make_glass(&net, 64), kept_up = reading_keeps_up("silica, amorphous");
+    make_diamond(&net, 2), bridge_bonds(&net), kept_up = reading_keeps_up("silica, beta-cristobalite") && kept_up;
+    return kept_up ? 0 : 1;
 }

@@ -1,22 +1,23 @@
 -- The file of valid bonds is accepted, and a network has no more bonds than a file may have.
 use mathlib.Core.Path.{_≡_, refl, sym, _∙_, ap, ap₂, subst}
 use mathlib.Core.Bool.{true, cond}
-use mathlib.Core.List.{List, [], _∷_, _++_, List·Memᴰ·head, List·Memᴰ·tail}
+use mathlib.Core.List.{List}
 use Prim.Native.Nat.{ℕ, zero, suc, _+_, _-_, _*_, _≤_, _<_}
 use native.Mathlib.Numerals.{add-one}
 use native.Mathlib.Omega.{arith}
 use native.Mathlib.Decide.{decLt, ℕ-discrete}
 use lib.Dec.{ltb}
-use lib.ListN.{length, getD, length-append}
+use lib.ListN.{length, getD}
 use borrow.Author.Tests.{eq-eqb, ne-eqb, lt-ltb, le-ltb}
-use Rattle.graph.specs.Lists.{_∈_, gather, numbersFrom}
+use Rattle.graph.specs.Lists.{gather, numbersFrom}
 use Rattle.graph.proofs.Lists.{at-place}
 use Rattle.network.specs.Maxima.{places}
 use Rattle.network.specs.Network.{Counted}
 use Rattle.network.specs.Verdict.{accepted}
 use Rattle.bonds.specs.Bonds.{Bond, EarlierBond, partner, partners, ValidBonds, bondsBelow}
 use Rattle.bonds.specs.Scan.{orAt}
-use Rattle.bonds.proofs.Runs.{length-more, gather-fits}
+use Rattle.bonds.proofs.Runs.{length-more}
+use Rattle.bonds.proofs.Twice.{twice}
 use Rattle.bonds.proofs.Scan.{clean-scan}
 use Rattle.bonds.proofs.Partners.{partner-first, partner-second, partners-fit}
 use Rattle.bonds.proofs.Tables.{ascending-places}
@@ -27,37 +28,14 @@ use Rattle.bnw.proofs.Valid.{Right, right-none, earlier-is}
 use Rattle.bnw.proofs.Writings.{file-length}
 use Rattle.bnw.proofs.Decoded.{none, mark-field, version-field, atoms-field, bonds-field, bond-read, bonds-read}
 
--- each bond stands in two rows, and a row has eight places
+-- a row has eight places
 module _ (n : ℕ) where
-  both : {A B : Type 0} (f g : A → List B) (xs : List A) → length (gather (λ x. f x ++ g x) xs) ≡ length (gather f xs) + length (gather g xs)
-  both f g [] = refl
-  both f g (x ∷ xs) =
-      length-append (f x ++ g x) (gather (λ y. f y ++ g y) xs)
-      ∙ omega (arith, length-append (f x) (g x), both f g xs, length-append (f x) (gather f xs), length-append (g x) (gather g xs))
-
-  two : (b : Bond) → b .first < b .second → b .second < n → 2 ≤ length (gather (λ x. partner x b) (numbersFrom n 0))
-  two b l h =
-      omega (
-        arith,
-        gather-fits (λ x. partner x b) (b .first) (b .second) l,
-        gather-fits (λ x. partner x b) (b .second) n h,
-        ap length (partner-first (b .first) b (b .first) refl refl),
-        ap length (partner-second (b .second) b (b .first) refl (λ e. omega arith) (b .second) refl refl),
-      )
-
-  twice : (bonds : List Bond) → ((b : Bond) → b ∈ bonds → (b .first < b .second) × (b .second < n)) → 2 * length bonds ≤ length (gather (partners bonds) (numbersFrom n 0))
-  unfolding partners
-  twice [] h = omega arith
-  twice (b ∷ bonds) h =
-      let r = h b (List·Memᴰ·head refl) in
-      omega (arith, both (λ x. partner x b) (partners bonds) (numbersFrom n 0), two b (r .0) (r .1), twice bonds (λ c m. h c (List·Memᴰ·tail m)))
-
   rows : (bonds : List Bond) → ((x : ℕ) → length (partners bonds x) ≤ places) → (k : ℕ) → length (gather (partners bonds) (numbersFrom k 0)) ≤ places * k
   rows bonds e zero = omega arith
   rows bonds e (suc k) = omega (arith, rows bonds e k, e k, rw add-one at (length-more (partners bonds) k))
 
   pub few-bonds : (bonds : List Bond) → Counted n → ValidBonds n bonds → length bonds ≤ bondsMost
-  few-bonds bonds C B = omega (arith, twice bonds (λ b m. (B .ordered b m, B .below b m)), rows bonds (B .eight) n, C .most)
+  few-bonds bonds C B = omega (arith, twice n bonds (λ b m. (λ e. omega (arith, B .ordered b m), omega (arith, B .ordered b m, B .below b m), B .below b m)), rows bonds (B .eight) n, C .most)
 
 module _ (n : ℕ) (bonds : List Bond) (C : Counted n) (B : ValidBonds n bonds) where
   -- each bond of the file is right

@@ -1,5 +1,5 @@
 -- Refusals 26 and 27 name the first bond at fault.
-use mathlib.Core.Path.{_≡_, refl, sym, _∙_, ap, subst}
+use mathlib.Core.Path.{_≡_, refl, sym, _∙_, subst}
 use mathlib.Core.Logic.{_⊎_, inl, inr}
 use mathlib.Core.Bool.{Bool, true, false, cond, not}
 use mathlib.Core.List.{List}
@@ -11,12 +11,13 @@ use lib.ListN.{length}
 use Rattle.network.specs.declared.Answer.{Answer}
 use Rattle.network.specs.Maxima.{atomsMost, places}
 use Rattle.network.specs.Verdict.{answer}
-use Rattle.bonds.specs.declared.NetworkRead.{NetworkRead}
-use Rattle.bonds.specs.Bonds.{Bond, EarlierBond, partners, bondsBelow}
+use Rattle.bonds.specs.declared.Reading.{Reading}
+use Rattle.bonds.specs.Bonds.{Bond, EarlierBond, partners, bondsBelow, Ninth}
 use Rattle.bonds.specs.Scan.{orAt, firstBond}
 use Rattle.bnw.specs.File.{version, bondsMost, headLength, bondLength}
 use Rattle.bnw.specs.Reading.{atomsIn, bondsIn, versionIn, signed, outOfRange, marked, headFault, inOrder, bondIn, fileBondFault, readVerdict, ReadOutcome}
-use Rattle.bnw.specs.FirstBond.{Misplaced, Ninth, NamesFirstBond}
+use Rattle.bonds.proofs.Scan.{scan-first}
+use Rattle.bnw.specs.FirstBond.{Misplaced, NamesFirstBond}
 use Rattle.bnw.proofs.BondFaults.{follows-none, fault-first, fault-second, fault-order, fault-after, fault-ninth-first, fault-ninth-second, fault-none}
 use Rattle.bnw.proofs.Valid.{follows-earlier, earlier-follows, right-of}
 
@@ -63,41 +64,6 @@ module _ (n : ℕ) (bond : ℕ → Bond) (k : ℕ) where
       go (no f) (no s) (no o) true e (no p) (no q) =
           absurd (z (sym (fault-none n bond k _ _ refl refl (omega arith) (omega arith) (omega arith) true e refl _ refl (omega arith) _ refl (omega arith))))
 
--- the answer of a scan that finds something
-record First (fault : ℕ → ℕ) (m k : ℕ) (a : Answer) : Type 0 where
-  at : ℕ
-  low : k ≤ at
-  high : at < k + m
-  is : a ≡ answer (fault at) 0 at
-  some : fault at ≡ 0 → ⊥
-  none : (j : ℕ) → k ≤ j → j < at → fault j ≡ 0
-
-scan-first : (fault : ℕ → ℕ) (m k : ℕ) → (firstBond fault m k .code ≡ 0 → ⊥) → First fault m k (firstBond fault m k)
-unfolding firstBond orAt
-scan-first fault zero k z = absurd (z refl)
-scan-first fault (suc m) k z = go (fault k) refl (scan-first fault m (k + 1)) z
-  where
-    go : (c : ℕ) → fault k ≡ c → ((firstBond fault m (k + 1) .code ≡ 0 → ⊥) → First fault m (k + 1) (firstBond fault m (k + 1)))
-        → (orAt c k (firstBond fault m (k + 1)) .code ≡ 0 → ⊥) → First fault (suc m) k (orAt c k (firstBond fault m (k + 1)))
-    go zero e ih z =
-        let r = ih z in
-        record {
-          at = r .at;
-          low = omega (arith, r .low);
-          high = omega (arith, r .high);
-          is = r .is;
-          some = r .some;
-          none = λ j l h. elim (decLe (k + 1) j) [ yes i ↦ r .none j i h | no i ↦ (let d : j ≡ k = omega arith in rw d e) ];
-        }
-    go (suc c) e ih z = record {
-      at = k;
-      low = omega arith;
-      high = omega arith;
-      is = ap (λ (i : ℕ). answer i 0 k) (sym e);
-      some = omega arith;
-      none = λ j l h. absurd (omega arith);
-    }
-
 pub names-first : (n : ℕ) (bond : ℕ → Bond) (m : ℕ) → (firstBond (fileBondFault n bond) m 0 .code ≡ 0 → ⊥) → NamesFirstBond n bond m (firstBond (fileBondFault n bond) m 0)
 names-first n bond m z =
     let f = scan-first (fileBondFault n bond) m 0 z in
@@ -126,7 +92,7 @@ head-small file room =
     go false false false false false false false = omega arith
 
 -- a file refused for its bonds: the answer names the first bond at fault
-pub read-names-first : (file before after : List ℕ) (r : NetworkRead) → ReadOutcome file before after r → 25 < r .answer .code → NamesFirstBond (atomsIn file) (bondIn file) (bondsIn file) (r .answer)
+pub read-names-first : (file before after : List ℕ) (r : Reading) → ReadOutcome file before after r → 25 < r .answer .code → NamesFirstBond (atomsIn file) (bondIn file) (bondsIn file) (r .answer)
 unfolding readVerdict orAt
 read-names-first file before after r R h =
     subst (NamesFirstBond (atomsIn file) (bondIn file) (bondsIn file)) (sym (R .verdict))

@@ -18,7 +18,7 @@ use borrow.Author.Tests.{le-ltb}
 use Rattle.network.specs.declared.Answer.{Answer}
 use Rattle.network.specs.Maxima.{places}
 use Rattle.network.specs.Network.{IsNetwork}
-use Rattle.bonds.specs.declared.NetworkRead.{NetworkRead}
+use Rattle.bonds.specs.declared.Reading.{Reading}
 use Rattle.bonds.specs.Bonds.{Bond, tableOf, bondsOf, bondsBelow}
 use Rattle.bonds.specs.Outcome.{GivesOne}
 use Rattle.bonds.proofs.Tables.{table-network}
@@ -48,7 +48,7 @@ pub file-gives-one : (file : List ℕ) → GivesOne (IsFile file)
 file-gives-one file n m bonds more B C e d = let same = sym e ∙ d in (file-atoms n m bonds more same, file-bonds n m bonds more same)
 
 -- an accepted reading
-module _ (file before after : List ℕ) (r : NetworkRead) (R : ReadOutcome file before after r) (z : r .answer .code ≡ 0) where
+module _ (file before after : List ℕ) (r : Reading) (R : ReadOutcome file before after r) (z : r .answer .code ≡ 0) where
   same-file : fileOf (r .atoms) (bondsOf (take (places * r .atoms) after)) ≡ file
   same-file =
       let A = R .accepts z in
@@ -72,7 +72,7 @@ module _ (n : ℕ) (t lent written : List ℕ) (w : FileWritten) (W : WriteOutco
   network : IsNetwork n t
   network = writes-network n t (length lent) (sym (ap code (W .verdict)) ∙ z)
 
-  pub write-read : (before after : List ℕ) (r : NetworkRead) → ReadOutcome (take (w .bytes) written) before after r → places * n ≤ length before
+  pub write-read : (before after : List ℕ) (r : Reading) → ReadOutcome (take (w .bytes) written) before after r → places * n ≤ length before
       → (r .answer .code ≡ 0) × (r .atoms ≡ n) × (r .bonds ≡ length (bondsOf t)) × (take (places * n) after ≡ t)
   write-read before after r R h =
       let ok : r .answer .code ≡ 0 =
@@ -87,7 +87,7 @@ module _ (n : ℕ) (t lent written : List ℕ) (w : FileWritten) (W : WriteOutco
         ap (λ (k : ℕ). take (places * k) after) (sym same) ∙ table-is R ok ∙ ap₂ tableOf same bonds ∙ table-back n t network,
       )
 
-pub accepted-exactly : (file before after : List ℕ) (r : NetworkRead) → ReadOutcome file before after r → (r .answer .code ≡ 0) ↔ FileOfNetwork file (length before)
+pub accepted-exactly : (file before after : List ℕ) (r : Reading) → ReadOutcome file before after r → (r .answer .code ≡ 0) ↔ FileOfNetwork file (length before)
 accepted-exactly file before after r R = (
   λ z.
       let a = R .accepts z in
@@ -105,7 +105,7 @@ accepted-exactly file before after r R = (
 )
 
 -- one outcome
-pub reads-one : (file before one other : List ℕ) (r s : NetworkRead) → ReadOutcome file before one r → ReadOutcome file before other s → (r ≡ s) × (one ≡ other)
+pub reads-one : (file before one other : List ℕ) (r s : Reading) → ReadOutcome file before one r → ReadOutcome file before other s → (r ≡ s) × (one ≡ other)
 reads-one file before one other r s = readings-one (file-gives-one file)
 
 abbrev writing : Answer → ℕ → FileWritten

@@ -1,21 +1,21 @@
 -- Bonds without a fault are valid bonds.
-use mathlib.Core.Path.{_≡_, refl, sym, ap, subst}
+use mathlib.Core.Path.{_≡_, refl, sym, subst}
 use mathlib.Core.Logic.{inl, inr}
 use mathlib.Core.Bool.{Bool, true, false}
-use mathlib.Core.List.{List, [], _∷_, List·Memᴰ·eq-of-singleton, List·Memᴰ·not-nil}
-use Prim.Native.Nat.{ℕ, zero, suc, _+_, _-_, _≤_, _<_}
+use mathlib.Core.List.{[], _∷_, List·Memᴰ·eq-of-singleton, List·Memᴰ·not-nil}
+use Prim.Native.Nat.{ℕ, zero, suc, _-_, _≤_, _<_}
 use native.Mathlib.Numerals.{add-one}
 use native.Mathlib.Omega.{arith}
 use native.Mathlib.Decide.{decLe, decLt, ℕ-discrete}
-use lib.ListN.{length, length-append}
+use lib.ListN.{length}
 use borrow.Author.Tests.{eq-eqb, ne-eqb, lt-ltb, le-ltb}
 use Rattle.graph.specs.Lists.{Ascending}
 use Rattle.graph.proofs.Lists.{append-ascending}
 use Rattle.network.specs.Maxima.{places}
-use Rattle.bonds.specs.Bonds.{Bond, EarlierBond, partner, partners, ValidBonds, bondsBelow}
+use Rattle.bonds.specs.Bonds.{Bond, EarlierBond, partners, ValidBonds, bondsBelow}
 use Rattle.bonds.proofs.Runs.{map-more}
 use Rattle.bonds.proofs.Order.{earlier-on, numbered}
-use Rattle.bonds.proofs.Partners.{partner-first, partner-second, partner-none, partners-more, partners-start}
+use Rattle.bonds.proofs.Partners.{rooms}
 use Rattle.bnw.specs.Reading.{earlierBond, inOrder, fileBondFault}
 use Rattle.bnw.proofs.BondFaults.{fault-first, fault-second, fault-order, fault-after, fault-ninth-first, fault-ninth-second, fault-none}
 
@@ -107,22 +107,10 @@ module _ (n : ℕ) (bond : ℕ → Bond) (m : ℕ) (right : (k : ℕ) → k < m 
       (λ a b p q. let r = numbered bond k p in
       subst (λ (c : Bond). EarlierBond c b) (sym (r .2)) (subst (λ (c : Bond). EarlierBond (bond (r .0)) c) (sym (List·Memᴰ·eq-of-singleton q)) (chain (r .0) k (r .1) (omega arith)))))
 
-  rooms : (x k : ℕ) → k ≤ m → length (partners (bondsBelow bond k) x) ≤ places
-  rooms x zero h = omega (arith, partners-start bond x)
-  rooms x (suc k) h =
-      subst (λ (xs : List ℕ). length xs ≤ places) (sym (rw add-one at (partners-more bond x k)))
-      (rw (length-append (partners (bondsBelow bond k) x) (partner x (bond k)))
-      (go (ℕ-discrete (bond k .first) x) (ℕ-discrete (bond k .second) x) (rooms x k (omega arith))))
-    where
-      go : Dec (bond k .first ≡ x) → Dec (bond k .second ≡ x) → length (partners (bondsBelow bond k) x) ≤ places → length (partners (bondsBelow bond k) x) + length (partner x (bond k)) ≤ places
-      go (yes e) _ ih = omega (arith, ap length (partner-first x (bond k) _ refl e), subst (λ (y : ℕ). length (partners (bondsBelow bond k) y) < places) e (right k h .room-first))
-      go (no e) (yes d) ih = omega (arith, ap length (partner-second x (bond k) _ refl e _ refl d), subst (λ (y : ℕ). length (partners (bondsBelow bond k) y) < places) d (right k h .room-second))
-      go (no e) (no d) ih = omega (arith, ap length (partner-none x (bond k) _ refl e _ refl d))
-
   pub valid : ValidBonds n (bondsBelow bond m)
   valid = record {
     ordered = λ b h. let r = numbered bond m h in subst (λ (c : Bond). c .first < c .second) (sym (r .2)) (right (r .0) (r .1) .ordered);
     below = λ b h. let r = numbered bond m h in subst (λ (c : Bond). c .second < n) (sym (r .2)) (right (r .0) (r .1) .below);
     ascends = rises m (omega arith);
-    eight = λ x. rooms x m (omega arith);
+    eight = λ x. rooms bond m (λ k l. (right k l .room-first, right k l .room-second)) x m (omega arith);
   }

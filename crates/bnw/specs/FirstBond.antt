@@ -1,15 +1,12 @@
 -- What refusals 26 and 27 mean at a bond, and which fault is the first (document 01, "Numbered refusals").
 --
 --   Misplaced n bond k    26: an atom is not below n, the first is not below the second, or the bond is not after the previous one
---   Ninth bond k          27: one of the bond's atoms has, among the bonds before it, as many as a row has places
 --   NamesFirstBond n bond m a    the answer a names the first of m bonds at fault: 26 where the bond has both, and none earlier has either
 use mathlib.Core.Path.{_≡_}
 use mathlib.Core.Logic.{_⊎_}
 use Prim.Native.Nat.{ℕ, suc, _≤_, _<_}
-use lib.ListN.{length}
 use Rattle.network.specs.declared.Answer.{Answer}
-use Rattle.network.specs.Maxima.{places}
-use Rattle.bonds.specs.Bonds.{Bond, EarlierBond, partners, bondsBelow}
+use Rattle.bonds.specs.Bonds.{Bond, EarlierBond, Ninth}
 
 abbrev pub Misplaced : ℕ → (ℕ → Bond) → ℕ → Type 0
 Misplaced n bond k =
@@ -17,11 +14,6 @@ Misplaced n bond k =
     ⊎ (n ≤ bond k .second)
     ⊎ (bond k .second ≤ bond k .first)
     ⊎ ((j : ℕ) × (suc j ≡ k) × (EarlierBond (bond j) (bond k) → ⊥))
-
-abbrev pub Ninth : (ℕ → Bond) → ℕ → Type 0
-Ninth bond k =
-    (places ≤ length (partners (bondsBelow bond k) (bond k .first)))
-    ⊎ (places ≤ length (partners (bondsBelow bond k) (bond k .second)))
 
 pub record NamesFirstBond (n : ℕ) (bond : ℕ → Bond) (m : ℕ) (a : Answer) : Type 0 where
   pub row : a .row ≡ 0

@@ -28,7 +28,7 @@ use lib.IntN.{ℤ, pos, negsuc, _-ℤ_}
 use lib.ListN.{length, getD}
 use Rattle.network.specs.declared.Answer.{Answer}
 use Rattle.network.specs.Maxima.{atomsMost, places}
-use Rattle.bonds.specs.declared.NetworkRead.{NetworkRead}
+use Rattle.bonds.specs.declared.Reading.{Reading}
 use Rattle.bonds.specs.Bonds.{Bond, full}
 use Rattle.bonds.specs.Scan.{orAt, firstBond}
 use Rattle.bonds.specs.Outcome.{Filled, ReadingOutcome}
@@ -100,8 +100,8 @@ readValue file code = cond (eqb code 22) (signed (atomsIn file)) (cond (eqb code
 abbrev pub IsFile : List ℕ → ℕ → List Bond → Type 0
 IsFile file n bonds = file ≡ fileOf n bonds
 
-abbrev pub ReadsAs : List ℕ → List ℕ → List ℕ → NetworkRead → Type 0
+abbrev pub ReadsAs : List ℕ → List ℕ → List ℕ → Reading → Type 0
 ReadsAs file = Filled (IsFile file)
 
-abbrev pub ReadOutcome : List ℕ → List ℕ → List ℕ → NetworkRead → Type 0
+abbrev pub ReadOutcome : List ℕ → List ℕ → List ℕ → Reading → Type 0
 ReadOutcome file before after r = ReadingOutcome (readVerdict file (length before)) (readValue file) (IsFile file) before after r

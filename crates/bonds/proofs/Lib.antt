@@ -3,6 +3,7 @@ pub mod Runs
 pub mod Order
 pub mod Scan
 pub mod Partners
+pub mod Twice
 pub mod TableBonds
 pub mod Tables
 pub mod Returns

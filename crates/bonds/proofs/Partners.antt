@@ -1,9 +1,10 @@
 -- The partners of an atom, bond by bond.
-use mathlib.Core.Path.{_≡_, refl, sym, _∙_, ap, ap₂}
+use mathlib.Core.Path.{_≡_, refl, sym, _∙_, ap, ap₂, subst}
 use mathlib.Core.List.{List, [], _∷_, _++_}
 use Prim.Native.Nat.{ℕ, zero, suc, _+_, _-_, _*_, _≤_, _<_}
 use native.Mathlib.Numerals.{add-one}
 use native.Mathlib.Omega.{arith}
+use native.Mathlib.Decide.{ℕ-discrete}
 use lib.ListN.{length, set, replicate, length-append, length-replicate}
 use lib.Seq.{sets}
 use borrow.Author.Tests.{eq-eqb, ne-eqb}
@@ -99,6 +100,21 @@ module _ (bond : ℕ → Bond) (x : ℕ) where
 
     pub fills-done : (t m : List ℕ) (i : ℕ) → m ≡ sets t i (partners (bondsBelow bond j) x) → m ≡ sets t i (partners (bondsBelow bond k) x)
     fills-done t m i e = let d : k ≡ j = omega arith in rw d e
+
+-- where each bond finds room in the rows of both its atoms, no row is overfull
+pub rooms : (bond : ℕ → Bond) (m : ℕ)
+    → ((k : ℕ) → k < m → (length (partners (bondsBelow bond k) (bond k .first)) < places) × (length (partners (bondsBelow bond k) (bond k .second)) < places))
+    → (x k : ℕ) → k ≤ m → length (partners (bondsBelow bond k) x) ≤ places
+rooms bond m room x zero h = omega (arith, partners-start bond x)
+rooms bond m room x (suc k) h =
+    subst (λ (xs : List ℕ). length xs ≤ places) (sym (rw add-one at (partners-more bond x k)))
+    (rw (length-append (partners (bondsBelow bond k) x) (partner x (bond k)))
+    (go (ℕ-discrete (bond k .first) x) (ℕ-discrete (bond k .second) x) (rooms bond m room x k (omega arith))))
+  where
+    go : Dec (bond k .first ≡ x) → Dec (bond k .second ≡ x) → length (partners (bondsBelow bond k) x) ≤ places → length (partners (bondsBelow bond k) x) + length (partner x (bond k)) ≤ places
+    go (yes e) _ ih = omega (arith, ap length (partner-first x (bond k) _ refl e), subst (λ (y : ℕ). length (partners (bondsBelow bond k) y) < places) e (room k h .0))
+    go (no e) (yes d) ih = omega (arith, ap length (partner-second x (bond k) _ refl e _ refl d), subst (λ (y : ℕ). length (partners (bondsBelow bond k) y) < places) d (room k h .1))
+    go (no e) (no d) ih = omega (arith, ap length (partner-none x (bond k) _ refl e _ refl d))
 
 -- a row: the partners, then free places
 module _ (bonds : List Bond) (x : ℕ) (l m o : List ℕ) (at : ℕ) (e : at ≡ places * x + length (partners bonds x)) (eight : length (partners bonds x) ≤ places) where

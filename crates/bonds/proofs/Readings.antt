@@ -15,13 +15,13 @@ use lib.Seq.{take-at}
 use Rattle.network.specs.declared.Answer.{Answer}
 use Rattle.network.specs.Maxima.{places}
 use Rattle.network.specs.Network.{IsNetwork}
-use Rattle.bonds.specs.declared.NetworkRead.{NetworkRead}
+use Rattle.bonds.specs.declared.Reading.{Reading}
 use Rattle.bonds.specs.Bonds.{Bond, tableOf}
 use Rattle.bonds.specs.Outcome.{GivesOne, ReadingOutcome}
 use Rattle.bonds.proofs.Partners.{table-length}
 use Rattle.bonds.proofs.Tables.{table-network}
 
-module _ {says : Answer} {value : ℕ → ℤ} {Gives : ℕ → List Bond → Type 0} {before after : List ℕ} {r : NetworkRead} (R : ReadingOutcome says value Gives before after r) where
+module _ {says : Answer} {value : ℕ → ℤ} {Gives : ℕ → List Bond → Type 0} {before after : List ℕ} {r : Reading} (R : ReadingOutcome says value Gives before after r) where
   pub table-is : (z : r .answer .code ≡ 0) → take (places * r .atoms) after ≡ tableOf (r .atoms) (R .accepts z .list)
   table-is z =
       let A = R .accepts z in
@@ -43,10 +43,10 @@ module _ {says : Answer} {value : ℕ → ℤ} {Gives : ℕ → List Bond → Ty
 abbrev code : Answer → ℕ
 code a = a .code
 
-abbrev reading : Answer → ℕ → ℕ → ℤ → NetworkRead
+abbrev reading : Answer → ℕ → ℕ → ℤ → Reading
 reading a n m v = record { answer = a; atoms = n; bonds = m; value = v }
 
-pub readings-one : {says : Answer} {value : ℕ → ℤ} {Gives : ℕ → List Bond → Type 0} {before one other : List ℕ} {r s : NetworkRead}
+pub readings-one : {says : Answer} {value : ℕ → ℤ} {Gives : ℕ → List Bond → Type 0} {before one other : List ℕ} {r s : Reading}
     → GivesOne Gives → ReadingOutcome says value Gives before one r → ReadingOutcome says value Gives before other s → (r ≡ s) × (one ≡ other)
 readings-one {value = value} {before = before} {one = one} {other = other} {r = r} {s = s} single R S = go (ℕ-discrete (r .answer .code) 0)
   where

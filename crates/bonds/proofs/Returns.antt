@@ -105,12 +105,12 @@ module _ (n : ℕ) (t : List ℕ) (N : IsNetwork n t) where
   ordered : (b : Bond) → b ∈ bondsOf t → b .first < b .second
   ordered b m = bonds-bonded t b m .0
 
-  -- the partners of x in the bonds of a network are its neighbours
-  joined-bond : (x y : ℕ) → Joined (bondsOf t) x y → Bonded t x y
+  -- the bonds of a network are its bonds
+  pub joined-bond : (x y : ℕ) → Joined (bondsOf t) x y → Bonded t x y
   joined-bond x y (inl h) = bonds-bonded t (bond x y) h .1
   joined-bond x y (inr h) = bonded-back n t N y x (bonds-bonded t (bond y x) h .1)
 
-  bond-joined : (x y : ℕ) → Bonded t x y → Joined (bondsOf t) x y
+  pub bond-joined : (x y : ℕ) → Bonded t x y → Joined (bondsOf t) x y
   bond-joined x y b = go (decLt x y)
     where
       go : Dec (x < y) → Joined (bondsOf t) x y
@@ -121,11 +121,12 @@ module _ (n : ℕ) (t : List ℕ) (N : IsNetwork n t) where
             | no e ↦ inr (bonded-bonds t y x (omega arith) (bonded-back n t N x y b))
           ]
 
+  -- the partners of x in them are its neighbours
   pub partners-neighbours : (x : ℕ) → partners (bondsOf t) x ≡ neighbours t x
   partners-neighbours x =
       ascending-unique _<_ (λ a h. omega arith) (λ a b c h k. omega arith) (partners (bondsOf t) x) (neighbours t x) (partners-ascend (bondsOf t) ordered bonds-ascend x) (finite n t N .ascends x)
       (λ y m. bonded-neighbour t x y (joined-bond x y (partners-of (bondsOf t) x y m)))
-      (λ y m. partners-has (bondsOf t) ordered x y (bond-joined x y (neighbour-bonded t x y m)))
+      (λ y m. partners-has (bondsOf t) x y (bond-joined x y (neighbour-bonded t x y m)))
 
 -- what is kept of a list is no longer than the list
 keep-short : {A : Type 0} (p : A → Bool) (xs : List A) → length (keep p xs) ≤ length xs

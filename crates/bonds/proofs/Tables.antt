@@ -1,6 +1,6 @@
 -- The table that valid bonds define is a network, with these bonds and no others.
 use mathlib.Core.Path.{_≡_, refl, sym, _∙_, ap, ap₂, subst}
-use mathlib.Core.Logic.{_⊎_, inl, inr}
+use mathlib.Core.Logic.{inl, inr}
 use mathlib.Core.List.{List, [], _∷_, List·Memᴰ·head, List·Memᴰ·tail, List·Memᴰ·not-nil, List·Memᴰ·eq-of-singleton}
 use Prim.Native.Nat.{ℕ, zero, suc, _+_, _-_, _*_, _≤_, _<_}
 use native.Mathlib.Omega.{arith}
@@ -11,17 +11,25 @@ use Rattle.graph.specs.Lists.{_∈_, Ascending, gather, numbersFrom}
 use Rattle.graph.proofs.Lists.{gather-of, gather-has, gather-ascending, place-of, at-place}
 use Rattle.network.specs.Maxima.{places, free}
 use Rattle.network.specs.Network.{word, Holds, Bonded, Counted, IsNetwork}
-use Rattle.bonds.specs.Bonds.{Bond, bond, EarlierBond, Joined, partner, partners, ValidBonds, rowOf, tableOf}
+use Rattle.bonds.specs.Bonds.{Bond, bond, EarlierBond, Joins, Joined, partner, partners, ValidBonds, rowOf, tableOf}
 use Rattle.bonds.proofs.Partners.{partner-first, partner-second, partner-none, row-length, table-length}
 
 -- the partner in a bond
-pub partner-of : (x y : ℕ) (b : Bond) → y ∈ partner x b → ((b .first ≡ x) × (b .second ≡ y)) ⊎ ((b .second ≡ x) × (b .first ≡ y))
+pub partner-of : (x y : ℕ) (b : Bond) → y ∈ partner x b → Joins b x y
 partner-of x y b m = go (ℕ-discrete (b .first) x) (ℕ-discrete (b .second) x)
   where
-    go : Dec (b .first ≡ x) → Dec (b .second ≡ x) → ((b .first ≡ x) × (b .second ≡ y)) ⊎ ((b .second ≡ x) × (b .first ≡ y))
+    go : Dec (b .first ≡ x) → Dec (b .second ≡ x) → Joins b x y
     go (yes e) _ = inl (e, sym (List·Memᴰ·eq-of-singleton (subst (λ (xs : List ℕ). y ∈ xs) (partner-first x b _ refl e) m)))
     go (no e) (yes d) = inr (d, sym (List·Memᴰ·eq-of-singleton (subst (λ (xs : List ℕ). y ∈ xs) (partner-second x b _ refl e _ refl d) m)))
     go (no e) (no d) = absurd (List·Memᴰ·not-nil (subst (λ (xs : List ℕ). y ∈ xs) (partner-none x b _ refl e _ refl d) m))
+
+pub partner-has : (x y : ℕ) (b : Bond) → Joins b x y → y ∈ partner x b
+partner-has x y b (inl e) = subst (λ (xs : List ℕ). y ∈ xs) (sym (partner-first x b _ refl (e .0))) (List·Memᴰ·head (sym (e .1)))
+partner-has x y b (inr e) = go (ℕ-discrete (b .first) x)
+  where
+    go : Dec (b .first ≡ x) → y ∈ partner x b
+    go (yes d) = subst (λ (xs : List ℕ). y ∈ xs) (sym (partner-first x b _ refl d)) (List·Memᴰ·head (sym (e .1) ∙ d ∙ sym (e .0)))
+    go (no d) = subst (λ (xs : List ℕ). y ∈ xs) (sym (partner-second x b _ refl d _ refl (e .0))) (List·Memᴰ·head (sym (e .1)))
 
 pub partners-of : (bonds : List Bond) (x y : ℕ) → y ∈ partners bonds x → Joined bonds x y
 unfolding partners
@@ -29,18 +37,16 @@ partners-of bonds x y m =
     let r = gather-of (partner x) bonds m in
     go (r .0) (r .1) (partner-of x y (r .0) (r .2))
   where
-    go : (b : Bond) → b ∈ bonds → ((b .first ≡ x) × (b .second ≡ y)) ⊎ ((b .second ≡ x) × (b .first ≡ y)) → Joined bonds x y
+    go : (b : Bond) → b ∈ bonds → Joins b x y → Joined bonds x y
     go b h (inl e) = inl (subst (λ (c : Bond). c ∈ bonds) (ap₂ bond (e .0) (e .1)) h)
     go b h (inr e) = inr (subst (λ (c : Bond). c ∈ bonds) (ap₂ bond (e .1) (e .0)) h)
 
-module _ (bonds : List Bond) (ordered : (b : Bond) → b ∈ bonds → b .first < b .second) where
-  pub partners-has : (x y : ℕ) → Joined bonds x y → y ∈ partners bonds x
-  unfolding partners
-  partners-has x y (inl h) = gather-has (partner x) h (subst (λ (xs : List ℕ). y ∈ xs) (sym (partner-first x (bond x y) x refl refl)) (List·Memᴰ·head refl))
-  partners-has x y (inr h) =
-      gather-has (partner x) h
-      (subst (λ (xs : List ℕ). y ∈ xs) (sym (partner-second x (bond y x) y refl (λ e. omega (arith, ordered (bond y x) h)) x refl refl)) (List·Memᴰ·head refl))
+pub partners-has : (bonds : List Bond) (x y : ℕ) → Joined bonds x y → y ∈ partners bonds x
+unfolding partners
+partners-has bonds x y (inl h) = gather-has (partner x) h (partner-has x y (bond x y) (inl (refl, refl)))
+partners-has bonds x y (inr h) = gather-has (partner x) h (partner-has x y (bond y x) (inr (refl, refl)))
 
+module _ (bonds : List Bond) (ordered : (b : Bond) → b ∈ bonds → b .first < b .second) where
   -- partners ascend where the bonds do
   ascending-with : (xs : List Bond) → ((b : Bond) → b ∈ xs → b .first < b .second) → Ascending EarlierBond xs → Ascending (λ a b. EarlierBond a b × (a .first < a .second) × (b .first < b .second)) xs
   ascending-with [] o h = tt
@@ -66,7 +72,7 @@ module _ (bonds : List Bond) (ordered : (b : Bond) → b ∈ bonds → b .first 
           short (no e) (no d) = omega (arith, ap length (partner-none x b _ refl e _ refl d))
 
       across : (a b : Bond) (u v : ℕ) → EarlierBond a b → a .first < a .second → b .first < b .second
-          → ((a .first ≡ x) × (a .second ≡ u)) ⊎ ((a .second ≡ x) × (a .first ≡ u)) → ((b .first ≡ x) × (b .second ≡ v)) ⊎ ((b .second ≡ x) × (b .first ≡ v)) → u < v
+          → Joins a x u → Joins b x v → u < v
       across a b u v (inl e) i j (inl p) (inl q) = absurd (omega (arith, p .0, q .0))
       across a b u v (inr e) i j (inl p) (inl q) = omega (arith, e .1, p .1, q .1)
       across a b u v (inl e) i j (inl p) (inr q) = absurd (omega (arith, p .0, q .0))
@@ -137,7 +143,7 @@ module _ (n : ℕ) (bonds : List Bond) (C : Counted n) (B : ValidBonds n bonds) 
   -- a bond of the file stands in the table
   pub joined-bonded : (x y : ℕ) → Joined bonds x y → Bonded (tableOf n bonds) x y
   joined-bonded x y j =
-      let q = place-of 0 (partners-has bonds (B .ordered) x y j) in
+      let q = place-of 0 (partners-has bonds x y j) in
       let l : q .0 < places = omega (arith, q .1, B .eight x) in
       let b = joined-below x y j in
       record {

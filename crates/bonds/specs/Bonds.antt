@@ -3,6 +3,7 @@
 --   Bond                      two bonded atoms
 --   bond x y                  the bond of x and y, x first
 --   EarlierBond a b           a comes before b: by the first atom and then the second
+--   Joins b x y               x and y are the two atoms of bond b, either way round
 --   Joined bonds x y          x and y are the two atoms of a bond
 --   partner x b               the other atom of a bond of x; none where x is not in the bond
 --   partners bonds x          the atoms bonded to x, in the order of the bonds
@@ -13,6 +14,7 @@
 --   bondsOf t                 the bonds of a table, word by word: smaller atom first, ascending
 --   bondsBelow bond k         the bonds of number below k
 --   full bond k x             whether x has, among the bonds of number below k, as many as a row has places
+--   Ninth bond k              27: one of the atoms of bond k has as many
 use mathlib.Core.Path.{_≡_}
 use mathlib.Core.Logic.{_⊎_}
 use mathlib.Core.Bool.{Bool, cond, not, _&&_}
@@ -32,6 +34,9 @@ bond x y = record { first = x; second = y }
 
 abbrev pub EarlierBond : Bond → Bond → Type 0
 EarlierBond a b = (a .first < b .first) ⊎ ((a .first ≡ b .first) × (a .second < b .second))
+
+abbrev pub Joins : Bond → ℕ → ℕ → Type 0
+Joins b x y = ((b .first ≡ x) × (b .second ≡ y)) ⊎ ((b .second ≡ x) × (b .first ≡ y))
 
 abbrev pub Joined : List Bond → ℕ → ℕ → Type 0
 Joined bonds x y = (bond x y ∈ bonds) ⊎ (bond y x ∈ bonds)
@@ -65,3 +70,8 @@ bondsBelow bond k = map bond (numbersFrom k 0)
 
 unfoldable pub full : (ℕ → Bond) → ℕ → ℕ → Bool
 full bond k x = leb places (length (partners (bondsBelow bond k) x))
+
+abbrev pub Ninth : (ℕ → Bond) → ℕ → Type 0
+Ninth bond k =
+    (places ≤ length (partners (bondsBelow bond k) (bond k .first)))
+    ⊎ (places ≤ length (partners (bondsBelow bond k) (bond k .second)))

@@ -14,13 +14,13 @@ use lib.ListN.{length, drop}
 use Rattle.network.specs.declared.Answer.{Answer}
 use Rattle.network.specs.Maxima.{places}
 use Rattle.network.specs.Network.{Counted}
-use Rattle.bonds.specs.declared.NetworkRead.{NetworkRead}
+use Rattle.bonds.specs.declared.Reading.{Reading}
 use Rattle.bonds.specs.Bonds.{Bond, ValidBonds, tableOf}
 
 abbrev pub GivesOne : (ℕ → List Bond → Type 0) → Type 0
 GivesOne Gives = (n m : ℕ) (bonds more : List Bond) → ValidBonds n bonds → ValidBonds m more → Gives n bonds → Gives m more → (n ≡ m) × (bonds ≡ more)
 
-pub record Filled (Gives : ℕ → List Bond → Type 0) (before after : List ℕ) (r : NetworkRead) : Type 0 where
+pub record Filled (Gives : ℕ → List Bond → Type 0) (before after : List ℕ) (r : Reading) : Type 0 where
   pub list : List Bond
   pub counted : Counted (r .atoms)
   pub valid : ValidBonds (r .atoms) list
@@ -28,7 +28,7 @@ pub record Filled (Gives : ℕ → List Bond → Type 0) (before after : List �
   pub number : r .bonds ≡ length list
   pub filled : after ≡ tableOf (r .atoms) list ++ drop (places * r .atoms) before
 
-pub record ReadingOutcome (says : Answer) (value : ℕ → ℤ) (Gives : ℕ → List Bond → Type 0) (before after : List ℕ) (r : NetworkRead) : Type 0 where
+pub record ReadingOutcome (says : Answer) (value : ℕ → ℤ) (Gives : ℕ → List Bond → Type 0) (before after : List ℕ) (r : Reading) : Type 0 where
   pub verdict : r .answer ≡ says
   pub signs : r .value ≡ value (r .answer .code)
   pub refused : (r .answer .code ≡ 0 → ⊥) → (r .atoms ≡ 0) × (r .bonds ≡ 0) × (after ≡ before)

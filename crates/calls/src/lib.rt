@@ -1,13 +1,13 @@
 // Each call of the library, made, and ensured of it all that is demanded of it, refused or accepted (`demands`); none requires anything.
-// The program's is in program; calls made one after the other are in `two_calls`.
+// The programs' are in program; calls made one after the other are in `two_calls`.
 pub mod program;
 
 use bnw::FileWritten;
-use bonds::NetworkRead;
+use bonds::Reading;
 use candidate::Tested;
 use census::Census;
 use network::Answer;
-ghost use Rattle.demands.specs.Calls.{ValidateMet, DistancesMet, CandidateMet, CountMet, ListMet, RenumberMet, ReadMet, WriteMet};
+ghost use Rattle.demands.specs.Calls.{ValidateMet, DistancesMet, CandidateMet, CountMet, ListMet, RenumberMet, ReadMet, ReadMolfileMet, WriteMet};
 
 // The first fault of a bond table, or that it is the table of a network.
 pub fn validate(n: usize, table: &[u16]) -> Answer
@@ -59,10 +59,17 @@ pub fn renumber(n: usize, table: &[u16], names: &[u16], renamed: &mut [u16]) -> 
 }
 
 // The rows of the file's network come to stand first in the table lent.
-pub fn read(file: &[u8], table: &mut [u16]) -> NetworkRead
+pub fn read(file: &[u8], table: &mut [u16]) -> Reading
     ensures { λ r. ⌜ ReadMet (now (file .entry)) (now (table .entry)) (now (table .exit)) r ⌝ }
 {
     bnw_reader::read(file, table)
+}
+
+// The rows of the molfile's network come to stand first in the table lent.
+pub fn read_molfile(file: &[u8], table: &mut [u16]) -> Reading
+    ensures { λ r. ⌜ ReadMolfileMet (now (file .entry)) (now (table .entry)) (now (table .exit)) r ⌝ }
+{
+    molfile_reader::read(file, table)
 }
 
 // The network's file comes to stand first in the bytes lent.

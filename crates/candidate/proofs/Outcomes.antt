@@ -8,7 +8,7 @@ use native.Mathlib.Omega.{arith}
 use native.Mathlib.Decide.{ℕ-discrete, decLt}
 use lib.ListN.{length, getD, replicate}
 use Rattle.graph.specs.Graph.{around, ShortestPathRing}
-use Rattle.graph.specs.Writing.{Reading}
+use Rattle.graph.specs.Writing.{RingReading}
 use Rattle.graph.proofs.Distances.{distance-unique}
 use Rattle.graph.proofs.Readings.{reading-self, reading-trans, reading-ring, reading-shortest}
 use Rattle.graph.proofs.Writings.{writing-unique}
@@ -92,7 +92,7 @@ first-unique Bad k i j x y P Q = (same-first, same-second)
     same-second = elim (decLt j y) [ yes l ↦ absurd (earlier i j x y P Q (inr (same-first, l))) | no l ↦ elim (decLt y j) [ yes m ↦ absurd (earlier x y i j Q P (inr (sym same-first, m))) | no m ↦ omega arith ] ]
 
 -- the words of a ring's one writing are unique, whichever reading of it is given
-pub writes-unique : (r s v w : List ℕ) → ringLeast ≤ length r → Reading 0 r s → WritingPadded r v → WritingPadded s w → v ≡ w
+pub writes-unique : (r s v w : List ℕ) → ringLeast ≤ length r → RingReading 0 r s → WritingPadded r v → WritingPadded s w → v ≡ w
 writes-unique r s v w l R F G = F .filled ∙ ap padded (writing-unique r (F .writing) (G .writing) (F .reading) (reading-trans 0 r s (G .writing) R (G .reading)) (F .one) (G .one) l) ∙ sym (G .filled)
 
 -- what a candidate is told is unique
@@ -168,7 +168,7 @@ module _ (n : ℕ) (t r before after : List ℕ) (c : Tested) (C : CandidateOutc
 
 -- the same ring, given from any place in either direction, gets the same yes and the same words
 pub same-ring : (n : ℕ) (t r s before before′ after after′ : List ℕ) (c c′ : Tested) → CandidateOutcome n t r before after c → CandidateOutcome n t s before′ after′ c′
-    → length before′ ≡ length before → Reading 0 r s → c .shortest ≡ Yes → (c′ .shortest ≡ Yes) × (c′ .writing ≡ c .writing)
+    → length before′ ≡ length before → RingReading 0 r s → c .shortest ≡ Yes → (c′ .shortest ≡ Yes) × (c′ .writing ≡ c .writing)
 same-ring n t r s before before′ after after′ c c′ C C′ l R e = (also, sym (writes-unique r s (c .writing) (c′ .writing) (A .ring .three) R (yes-writes n t r before after c C e) (yes-writes n t s before′ after′ c′ C′ also)))
   where
     h : RightCandidate n t r before × ShortestPathRing (Bonded t) 0 r

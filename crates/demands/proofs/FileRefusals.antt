@@ -23,7 +23,7 @@ use Rattle.demands.specs.FileRefusals.{Marked, Within, Bonds, ReadSays}
 
 -- one check of the head
 module _ (c : ℕ) (some : c ≡ 0 → ⊥) (bad : Bool) (rest : ℕ) (later : Answer) (Right : Type 0) (Later : Answers) where
-  head-says : Dec Right → (Right → bad ≡ false) → ((Right → ⊥) → bad ≡ true) → (Right → Later (orAt rest 0 later)) → Check c Right Later (orAt (cond bad c rest) 0 later)
+  pub head-says : Dec Right → (Right → bad ≡ false) → ((Right → ⊥) → bad ≡ true) → (Right → Later (orAt rest 0 later)) → Check c Right Later (orAt (cond bad c rest) 0 later)
   unfolding Check
   head-says (yes r) f g k = subst (λ (b : Bool). Check c Right Later (orAt (cond b c rest) 0 later)) (sym (f r)) (inr (r, k r))
   head-says (no h) f g k = subst (λ (b : Bool). Check c Right Later (orAt (cond b c rest) 0 later)) (sym (g h)) (inl (h, given c 0 later some))
@@ -78,7 +78,7 @@ bonds-say n bond m = go (ℕ-discrete (firstBond (fileBondFault n bond) m 0 .cod
         inr (λ k l. fault-clean n bond k (clean k (omega arith) (omega arith)), clean-scan (fileBondFault n bond) m 0 clean)
 
 -- no fault in the head
-no-fault : (a : Answer) → a ≡ orAt 0 0 a
+pub no-fault : (a : Answer) → a ≡ orAt 0 0 a
 unfolding orAt
 no-fault a = refl
 

@@ -1,21 +1,27 @@
 -- Demand 2 holds of files.
-use mathlib.Core.Path.{_≡_, _∙_, ap}
+use mathlib.Core.Path.{_≡_, refl, sym, _∙_, ap}
 use mathlib.Core.List.{List}
 use Prim.Native.Nat.{ℕ, _*_, _≤_}
 use native.Mathlib.Omega.{arith}
 use native.Mathlib.Decide.{ℕ-discrete}
 use lib.ListN.{length, take, drop, length-append}
+use borrow.Author.Tests.{le-ltb}
+use Rattle.network.specs.declared.Answer.{Answer}
 use Rattle.network.specs.Maxima.{places}
 use Rattle.bonds.specs.Bonds.{bondsOf}
-use Rattle.bonds.proofs.Readings.{read-network}
+use Rattle.bonds.proofs.Returns.{bonds-back}
+use Rattle.bonds.proofs.Readings.{table-is, read-network}
 use Rattle.bnw.specs.declared.FileWritten.{FileWritten}
 use Rattle.bnw.specs.File.{fileOf}
 use Rattle.bnw.specs.Reading.{ReadOutcome}
 use Rattle.bnw.specs.Writing.{WriteOutcome}
+use Rattle.bnw.proofs.Writings.{file-length, network-judged}
 use Rattle.bnw.proofs.RoundTrips.{read-write, write-read}
+use Rattle.molfile.specs.Judging.{MolfileOutcome}
 use Rattle.demands.specs.declared.ReadAndWritten.{ReadAndWritten}
-use Rattle.demands.specs.Files.{rowsRead, ReadThenWrite, WriteThenRead}
-use Rattle.demands.proofs.Meets.{read-met, write-met}
+use Rattle.demands.specs.declared.ReadAndWrittenAndRead.{ReadAndWrittenAndRead}
+use Rattle.demands.specs.Files.{rowsRead, ReadThenWrite, WriteThenRead, MolfileThenFile}
+use Rattle.demands.proofs.Meets.{read-met, read-molfile-met, write-met}
 
 -- the bytes written are part of the file
 pub bytes-inside : (n : ℕ) (t file file′ : List ℕ) (w : FileWritten) → WriteOutcome n t file file′ w → w .bytes ≤ length file′
@@ -42,4 +48,23 @@ write-then-read n t file file′ table table′ r W R = record {
   back = λ z h.
       let back = write-read n t file file′ (r .writing) W z table table′ (r .reading) R h in
       (back .0, back .1, ap (λ (k : ℕ). take (places * k) table′) (back .1) ∙ back .3);
+}
+
+pub molfile-then-file : (file table table′ lent lent′ again again′ : List ℕ) (r : ReadAndWrittenAndRead) → MolfileOutcome file table table′ (r .reading)
+    → WriteOutcome (r .reading .atoms) (rowsRead (r .reading) table′) lent lent′ (r .writing) → ReadOutcome (take (r .writing .bytes) lent′) again again′ (r .again)
+    → MolfileThenFile file table table′ lent lent′ again again′ r
+molfile-then-file file table table′ lent lent′ again again′ r R W A = record {
+  read = read-molfile-met file table table′ (r .reading) R;
+  written = write-met (r .reading .atoms) (rowsRead (r .reading) table′) lent lent′ (r .writing) W;
+  read-again = read-met (take (r .writing .bytes) lent′) again again′ (r .again) A;
+  back = λ z h k.
+      let n = r .reading .atoms in
+      let t = rowsRead (r .reading) table′ in
+      let F = R .accepts z in
+      let bonds : length (bondsOf t) ≡ r .reading .bonds = ap length (ap bondsOf (table-is R z) ∙ bonds-back n (F .list) (F .counted) (F .valid)) ∙ sym (F .number) in
+      let fits : length (fileOf n (bondsOf t)) ≤ length lent = omega (arith, file-length n (bondsOf t), bonds, h) in
+      let done : r .writing .answer .code ≡ 0 =
+      ap (λ (a : Answer). a .code) (W .verdict ∙ network-judged n t (length lent) (read-network R z)) ∙ rw (le-ltb (length lent) (length (fileOf n (bondsOf t))) fits) refl in
+      let same = write-read n t lent lent′ (r .writing) W done again again′ (r .again) A k in
+      (done, same .0, same .1, same .2 ∙ bonds, ap (λ (j : ℕ). take (places * j) again′) (same .1) ∙ same .3);
 }

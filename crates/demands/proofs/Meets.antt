@@ -1,10 +1,13 @@
 -- What comes of each call, as its contract has it, meets what is demanded.
 use mathlib.Core.Path.{_≡_, refl, sym, _∙_, ap, subst}
 use mathlib.Core.List.{List}
-use Prim.Native.Nat.{ℕ}
+use Prim.Native.Nat.{ℕ, _*_}
 use native.Mathlib.Omega.{arith}
-use lib.ListN.{length}
+use lib.ListN.{length, drop}
+use lib.Seq.{drop-at}
+use borrow.Author.Tests.{eq-eqb, ne-eqb}
 use Rattle.network.specs.declared.Answer.{Answer}
+use Rattle.network.specs.Maxima.{places}
 use Rattle.network.specs.Verdict.{verdict}
 use Rattle.network.proofs.Networks.{network-of, verdict-says}
 use Rattle.distance.specs.Outcome.{DistancesOutcome}
@@ -17,17 +20,24 @@ use Rattle.census.specs.Census.{CountOutcome, ListOutcome}
 use Rattle.census.proofs.Settled.{reached}
 use Rattle.renumber.specs.Outcome.{RenumberOutcome}
 use Rattle.renumber.proofs.Outcomes.{renumber-says}
-use Rattle.bonds.specs.declared.NetworkRead.{NetworkRead}
+use Rattle.bonds.specs.declared.Reading.{Reading}
+use Rattle.bonds.specs.Bonds.{tableOf}
+use Rattle.bonds.proofs.Partners.{table-length}
+use Rattle.bonds.proofs.Readings.{read-network}
 use Rattle.bnw.specs.declared.FileWritten.{FileWritten}
 use Rattle.bnw.specs.Reading.{atomsIn, bondsIn, ReadOutcome}
 use Rattle.bnw.specs.Writing.{WriteOutcome}
 use Rattle.bnw.proofs.Writings.{write-says}
 use Rattle.bnw.proofs.HeadFaults.{value-22, value-23, value-else}
+use Rattle.molfile.specs.Judging.{molfileValue, MolfileOutcome}
+use Rattle.molfile.proofs.Laws.{bonded-exactly}
 use Rattle.demands.specs.Refusals.{ValidateSays, DistancesSays, CandidateSays, RenumberSays, WriteSays}
 use Rattle.demands.specs.FileRefusals.{ReadSays}
-use Rattle.demands.specs.Calls.{ValidateMet, DistancesMet, CandidateMet, CountMet, ListMet, RenumberMet, WriteMet, ReadMet}
+use Rattle.demands.specs.MolfileRefusals.{ReadMolfileSays}
+use Rattle.demands.specs.Calls.{ValidateMet, DistancesMet, CandidateMet, CountMet, ListMet, RenumberMet, WriteMet, ReadMet, ReadMolfileMet}
 use Rattle.demands.proofs.SearchRefusals.{count-says, list-says, count-leaves, list-leaves}
 use Rattle.demands.proofs.FileRefusals.{read-says}
+use Rattle.demands.proofs.MolfileRefusals.{read-molfile-says}
 use Rattle.demands.proofs.Rings.{accepted-count, accepted-listing}
 
 module _ (n : ℕ) (t : List ℕ) where
@@ -81,7 +91,7 @@ module _ (n : ℕ) (t : List ℕ) where
     done = λ z. (h .number z, h .written z);
   }
 
-pub read-met : (file table table′ : List ℕ) (r : NetworkRead) → ReadOutcome file table table′ r → ReadMet file table table′ r
+pub read-met : (file table table′ : List ℕ) (r : Reading) → ReadOutcome file table table′ r → ReadMet file table table′ r
 read-met file table table′ r h = record {
   gives = subst (ReadSays file table) (sym (h .verdict)) (read-says file table);
   refused = λ z. record {
@@ -93,4 +103,28 @@ read-met file table table′ r h = record {
     value-else = λ e f. h .signs ∙ sym (value-else file (r .answer .code) e f);
   };
   done = λ z. (h .accepts z, h .signs ∙ sym (value-else file (r .answer .code) (λ e. omega (arith, z, e)) (λ e. omega (arith, z, e))));
+}
+
+-- a molfile's
+pub read-molfile-met : (file table table′ : List ℕ) (r : Reading) → MolfileOutcome file table table′ r → ReadMolfileMet file table table′ r
+unfolding molfileValue
+read-molfile-met file table table′ r h = record {
+  gives = subst (ReadMolfileSays file table) (sym (h .verdict)) (read-molfile-says file table);
+  refused = λ z. record {
+    atoms = h .refused z .0;
+    bonds = h .refused z .1;
+    stays = h .refused z .2;
+    value-22 = λ e. h .signs ∙ rw (eq-eqb (r .answer .code) 22 e) refl;
+    value-else = λ e. h .signs ∙ rw (ne-eqb (r .answer .code) 22 e) refl;
+  };
+  done = λ z.
+      let A = h .accepts z in
+      record {
+        atoms = A .gives .atoms;
+        bonds = A .number ∙ A .gives .number;
+        value = h .signs ∙ rw (ne-eqb (r .answer .code) 22 (λ e. omega (arith, z, e))) refl;
+        network = read-network h z;
+        bonded = bonded-exactly file table table′ r h z;
+        rest = ap (drop (places * r .atoms)) (A .filled) ∙ drop-at (tableOf (r .atoms) (A .list)) (drop (places * r .atoms) table) (places * r .atoms) (table-length (A .list) (A .valid .eight) (r .atoms));
+      };
 }

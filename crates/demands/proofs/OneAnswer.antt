@@ -10,8 +10,8 @@ use Rattle.network.specs.Chain.{Answers, OneAnswer}
 use Rattle.network.proofs.FirstFaults.{same-place, same-answer}
 use Rattle.network.proofs.Chains.{one-link}
 use Rattle.census.specs.Census.{limitOf}
-use Rattle.bonds.specs.Bonds.{Bond}
-use Rattle.bnw.specs.FirstBond.{Misplaced, Ninth, NamesFirstBond}
+use Rattle.bonds.specs.Bonds.{Bond, Ninth}
+use Rattle.bnw.specs.FirstBond.{Misplaced, NamesFirstBond}
 use Rattle.demands.specs.Refusals.{OfRings}
 use Rattle.demands.specs.FileRefusals.{Bonds}
 

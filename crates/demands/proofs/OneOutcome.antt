@@ -1,13 +1,17 @@
 -- What is demanded of each call is met by one outcome.
-use mathlib.Core.Path.{_≡_, refl, sym, _∙_, ap, ap₂}
-use mathlib.Core.Logic.{inl, inr}
-use mathlib.Core.List.{List}
-use Prim.Native.Nat.{ℕ}
+use mathlib.Core.Path.{_≡_, refl, sym, _∙_, ap, ap₂, subst}
+use mathlib.Core.Logic.{inl, inr, _↔_}
+use mathlib.Core.List.{List, _++_}
+use Prim.Native.Nat.{ℕ, _*_}
 use native.Mathlib.Omega.{arith}
 use native.Mathlib.Decide.{ℕ-discrete}
-use lib.ListN.{length}
+use lib.IntN.{ℤ}
+use lib.ListN.{length, take, drop, take-append-drop}
 use Rattle.network.specs.declared.Answer.{Answer}
+use Rattle.network.specs.Maxima.{places}
+use Rattle.network.specs.Network.{Bonded, IsNetwork}
 use Rattle.network.specs.Chain.{Answers, OneAnswer}
+use Rattle.network.proofs.Bonds.{network-unique}
 use Rattle.network.proofs.Chains.{one-accepted, one-check, one-places, one-table}
 use Rattle.distance.specs.Outcome.{DistancesOutcome}
 use Rattle.distance.proofs.Outcomes.{distances-says, table-unique}
@@ -21,18 +25,20 @@ use Rattle.census.specs.Census.{noCensus}
 use Rattle.renumber.specs.Outcome.{RenumberOutcome}
 use Rattle.renumber.proofs.Outcomes.{renumber-says}
 use Rattle.renumber.proofs.OneOutcome.{one-outcome}
-use Rattle.bonds.specs.declared.NetworkRead.{NetworkRead}
+use Rattle.bonds.specs.declared.Reading.{Reading}
 use Rattle.bnw.specs.declared.FileWritten.{FileWritten}
 use Rattle.bnw.specs.Reading.{atomsIn, bondsIn, readValue, ReadOutcome}
 use Rattle.bnw.specs.Writing.{WriteOutcome}
 use Rattle.bnw.proofs.Writings.{write-says}
 use Rattle.bnw.proofs.HeadFaults.{value-22, value-23, value-else}
 use Rattle.bnw.proofs.RoundTrips.{reads-one, writes-one}
+use Rattle.molfile.specs.Molfile.{Paired}
 use Rattle.demands.specs.Refusals.{ValidateSays, DistancesSays, CandidateSays, CountSays, ListSays, RenumberSays, WriteSays}
 use Rattle.demands.specs.FileRefusals.{ReadSays}
-use Rattle.demands.specs.Calls.{Met, AfterSearch, DistancesMet, CandidateMet, RenumberMet, WriteMet, ReadMet}
-use Rattle.demands.specs.OneOutcome.{ValidateFixed, DistancesFixed, CandidateFixed, CountFixed, ListFixed, RenumberFixed, WriteFixed, ReadFixed}
+use Rattle.demands.specs.Calls.{Met, AfterSearch, NoMolfileRead, MolfileRead, DistancesMet, CandidateMet, RenumberMet, WriteMet, ReadMet}
+use Rattle.demands.specs.OneOutcome.{ValidateFixed, DistancesFixed, CandidateFixed, CountFixed, ListFixed, RenumberFixed, WriteFixed, ReadFixed, ReadMolfileFixed}
 use Rattle.demands.proofs.FileRefusals.{read-says}
+use Rattle.demands.proofs.MolfileRefusals.{one-molfile-answer}
 use Rattle.demands.proofs.OneAnswer.{one-of-rings, one-bonds}
 use Rattle.demands.proofs.OneListing.{one-count, one-listing}
 
@@ -99,7 +105,7 @@ write-fixed n t file = record { answer = only; outcome = λ o p M N. both o p (w
     contract file′ w M = record { verdict = only (w .answer) _ (M .gives) (write-says n t (length file)); refused = M .refused; number = λ z. M .done z .0; written = λ z. M .done z .1 }
 
 -- the value that goes with an answer of the reader
-value-met : (file table table′ : List ℕ) (r : NetworkRead) → ReadMet file table table′ r → r .value ≡ readValue file (r .answer .code)
+value-met : (file table table′ : List ℕ) (r : Reading) → ReadMet file table table′ r → r .value ≡ readValue file (r .answer .code)
 value-met file table table′ r M = signs (ℕ-discrete (r .answer .code) 0) (ℕ-discrete (r .answer .code) 22) (ℕ-discrete (r .answer .code) 23)
   where
     signs : Dec (r .answer .code ≡ 0) → Dec (r .answer .code ≡ 22) → Dec (r .answer .code ≡ 23) → r .value ≡ readValue file (r .answer .code)
@@ -114,13 +120,57 @@ read-fixed file table = record { answer = only; outcome = λ o p M N. both o p (
     only : OneAnswer (ReadSays file table)
     only = one-check _ _ _ (one-check _ _ _ (one-check _ _ _ (one-check _ _ _ (one-check _ _ _ (one-check _ _ _ (one-check _ _ _ (one-bonds _ _ _ _ one-accepted)))))))
 
-    contract : (table′ : List ℕ) (r : NetworkRead) → ReadMet file table table′ r → ReadOutcome file table table′ r
+    contract : (table′ : List ℕ) (r : Reading) → ReadMet file table table′ r → ReadOutcome file table table′ r
     contract table′ r M = record {
       verdict = only (r .answer) _ (M .gives) (read-says file table);
       signs = value-met file table table′ r M;
       refused = λ z. (M .refused z .atoms, M .refused z .bonds, M .refused z .stays);
       accepts = λ z. M .done z .0;
     }
+
+-- a molfile is read in one way: a network's table is determined by its bonds
+pub read-molfile-fixed : ReadMolfileFixed
+read-molfile-fixed file table = record {
+  answer = one-molfile-answer file table;
+  outcome = λ o p M N.
+      let same : o .0 .answer ≡ p .0 .answer = one-molfile-answer file table _ _ (M .gives) (N .gives) in
+      both o p (alike _ same M N (refused (o .0) (p .0) (o .1) (p .1) same) (accepted (o .0) (p .0) (o .1) (p .1) same));
+}
+  where
+    reading : Answer → ℕ → ℕ → ℤ → Reading
+    reading a n m v = record { answer = a; atoms = n; bonds = m; value = v }
+
+    parts : (r s : Reading) → r .answer ≡ s .answer → r .atoms ≡ s .atoms → r .bonds ≡ s .bonds → r .value ≡ s .value → r ≡ s
+    parts r s a n m v = ap₂ (λ (b : Answer) (k : ℕ). reading b k (r .bonds) (r .value)) a n ∙ ap₂ (λ (k : ℕ) (w : ℤ). reading (s .answer) (s .atoms) k w) m v
+
+    refused : (r s : Reading) (table′ table″ : List ℕ) → r .answer ≡ s .answer → NoMolfileRead file table table′ r → NoMolfileRead file table table″ s → (r ≡ s) × (table′ ≡ table″)
+    refused r s table′ table″ a L K = (parts r s a (L .atoms ∙ sym (K .atoms)) (L .bonds ∙ sym (K .bonds)) value, L .stays ∙ sym (K .stays))
+      where
+        code : r .answer .code ≡ s .answer .code
+        code = ap (λ (b : Answer). b .code) a
+
+        value : r .value ≡ s .value
+        value = elim (ℕ-discrete (r .answer .code) 22) [ yes e ↦ L .value-22 e ∙ sym (K .value-22 (sym code ∙ e)) | no e ↦ L .value-else e ∙ sym (K .value-else (λ d. e (code ∙ d))) ]
+
+    accepted : (r s : Reading) (table′ table″ : List ℕ) → r .answer ≡ s .answer → MolfileRead file table table′ r → MolfileRead file table table″ s → (r ≡ s) × (table′ ≡ table″)
+    accepted r s table′ table″ a L K = (parts r s a n (L .bonds ∙ sym (K .bonds)) (L .value ∙ sym (K .value)), sym (take-append-drop (places * r .atoms) table′) ∙ ap₂ _++_ rows rest ∙ take-append-drop (places * r .atoms) table″)
+      where
+        n : r .atoms ≡ s .atoms
+        n = L .atoms ∙ sym (K .atoms)
+
+        other : IsNetwork (r .atoms) (take (places * r .atoms) table″)
+        other = subst (λ (k : ℕ). IsNetwork k (take (places * k) table″)) (sym n) (K .network)
+
+        bonded : (x y : ℕ) → Bonded (take (places * r .atoms) table″) x y ↔ Paired file x y
+        bonded = subst (λ (k : ℕ). (x y : ℕ) → Bonded (take (places * k) table″) x y ↔ Paired file x y) (sym n) (K .bonded)
+
+        rows : take (places * r .atoms) table′ ≡ take (places * r .atoms) table″
+        rows =
+            network-unique (r .atoms) (take (places * r .atoms) table′) (take (places * r .atoms) table″) (L .network) other
+            (λ x y. (λ b. bonded x y .1 (L .bonded x y .0 b), λ b. L .bonded x y .1 (bonded x y .0 b)))
+
+        rest : drop (places * r .atoms) table′ ≡ drop (places * r .atoms) table″
+        rest = L .rest ∙ sym (subst (λ (k : ℕ). drop (places * k) table″ ≡ drop (places * k) table) (sym n) (K .rest))
 
 -- counting or listing is refused in one way
 one-refused : (n : ℕ) (t dist dist′ dist″ : List ℕ) (c e : Census) → c .answer ≡ e .answer → AfterSearch n t dist dist′ c → AfterSearch n t dist dist″ e → (c ≡ e) × (dist′ ≡ dist″)

@@ -12,9 +12,9 @@ use lib.IntN.{ℤ, pos, negsuc}
 use lib.ListN.{length, getD}
 use Rattle.network.specs.Maxima.{atomsMost, places}
 use Rattle.network.specs.Chain.{Answers, Check, Accepted}
-use Rattle.bonds.specs.Bonds.{Bond}
+use Rattle.bonds.specs.Bonds.{Bond, Ninth}
 use Rattle.bnw.specs.File.{mark, version, bondsMost, headLength, bondLength}
-use Rattle.bnw.specs.FirstBond.{Misplaced, Ninth, NamesFirstBond}
+use Rattle.bnw.specs.FirstBond.{Misplaced, NamesFirstBond}
 use Rattle.bnw.specs.Reading.{versionIn, atomsIn, bondsIn, signed, bondIn}
 
 abbrev pub Marked : List ℕ → Type 0

@@ -2,7 +2,7 @@
 --
 --   Fixed Gives Meets     the chain of checks gives one answer, and one outcome meets the demand: a result with the lent buffers afterwards
 --
---   ValidateFixed, DistancesFixed, CandidateFixed, CountFixed, ListFixed, RenumberFixed, WriteFixed, ReadFixed    this, of each call
+--   ValidateFixed, DistancesFixed, CandidateFixed, CountFixed, ListFixed, RenumberFixed, WriteFixed, ReadFixed, ReadMolfileFixed    this, of each call
 use mathlib.Core.Path.{_≡_}
 use mathlib.Core.List.{List}
 use Prim.Native.Nat.{ℕ}
@@ -10,11 +10,12 @@ use Rattle.network.specs.declared.Answer.{Answer}
 use Rattle.network.specs.Chain.{Answers, OneAnswer}
 use Rattle.candidate.specs.declared.Tested.{Tested}
 use Rattle.census.specs.declared.Census.{Census}
-use Rattle.bonds.specs.declared.NetworkRead.{NetworkRead}
+use Rattle.bonds.specs.declared.Reading.{Reading}
 use Rattle.bnw.specs.declared.FileWritten.{FileWritten}
 use Rattle.demands.specs.Refusals.{ValidateSays, DistancesSays, CandidateSays, CountSays, ListSays, RenumberSays, WriteSays}
 use Rattle.demands.specs.FileRefusals.{ReadSays}
-use Rattle.demands.specs.Calls.{ValidateMet, DistancesMet, CandidateMet, CountMet, ListMet, RenumberMet, WriteMet, ReadMet}
+use Rattle.demands.specs.MolfileRefusals.{ReadMolfileSays}
+use Rattle.demands.specs.Calls.{ValidateMet, DistancesMet, CandidateMet, CountMet, ListMet, RenumberMet, WriteMet, ReadMet, ReadMolfileMet}
 
 pub record Fixed {Out : Type 0} (Gives : Answers) (Meets : Out → Type 0) : Type 0 where
   pub answer : OneAnswer Gives
@@ -46,4 +47,7 @@ abbrev pub WriteFixed : Type 0
 WriteFixed = (n : ℕ) (t file : List ℕ) → Fixed (WriteSays n t file) (λ (o : FileWritten × List ℕ). WriteMet n t file (o .1) (o .0))
 
 abbrev pub ReadFixed : Type 0
-ReadFixed = (file table : List ℕ) → Fixed (ReadSays file table) (λ (o : NetworkRead × List ℕ). ReadMet file table (o .1) (o .0))
+ReadFixed = (file table : List ℕ) → Fixed (ReadSays file table) (λ (o : Reading × List ℕ). ReadMet file table (o .1) (o .0))
+
+abbrev pub ReadMolfileFixed : Type 0
+ReadMolfileFixed = (file table : List ℕ) → Fixed (ReadMolfileSays file table) (λ (o : Reading × List ℕ). ReadMolfileMet file table (o .1) (o .0))

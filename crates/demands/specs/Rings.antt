@@ -12,7 +12,7 @@ use mathlib.Core.List.{List, _++_, map}
 use Prim.Native.Nat.{ℕ, _+_, _<_}
 use lib.ListN.{length, drop}
 use Rattle.graph.specs.Lists.{numbersFrom}
-use Rattle.graph.specs.Writing.{Reading, OneWriting}
+use Rattle.graph.specs.Writing.{RingReading, OneWriting}
 use Rattle.graph.specs.Standing.{StandExactly}
 use Rattle.graph.specs.Counts.{ofLength, lengthsOf, wordsOf}
 use Rattle.network.specs.Network.{Bonded}
@@ -24,7 +24,7 @@ use Rattle.census.specs.Census.{limitOf, encode}
 -- a cycle of at most `limit` bonds is at its distances round the ring exactly when it stands in the list, once (exactly); nothing else stands there
 -- (cycles), each ring in its one writing (written), in list order (order)
 abbrev pub RingsStand : List ℕ → ℕ → List (List ℕ) → Type 0
-RingsStand t limit rings = StandExactly (Bonded t) 0 _<_ (Reading 0) OneWriting limit rings
+RingsStand t limit rings = StandExactly (Bonded t) 0 _<_ (RingReading 0) OneWriting limit rings
 
 pub record Numbers (n : ℕ) (rings : List (List ℕ)) (c : Census) : Type 0 where
   -- one count for each length, 0 to the greatest, in this order: how many rings have that length

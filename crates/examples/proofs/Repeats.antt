@@ -6,7 +6,7 @@ use lib.Dec.{T, eqb, eqb→eq, eqb-refl, T-not}
 use lib.ListN.{length}
 use Rattle.graph.specs.Lists.{_∈_}
 use Rattle.graph.specs.Listing.{Listed}
-use Rattle.graph.specs.Writing.{Reading, OneWriting}
+use Rattle.graph.specs.Writing.{RingReading, OneWriting}
 use Rattle.graph.specs.Levels.{elem}
 use Rattle.graph.proofs.Lists.{and-T, every-of}
 use Rattle.graph.proofs.Levels.{elem-of}
@@ -38,7 +38,7 @@ twice-of m h =
     let N : IsNetwork n t = network-of n t (ap (λ a. a .code) (H .is-accepted)) in
     let listed : r ∈ rings = elem-of (same eqb) (same-of eqb eqb→eq) (same-self eqb eqb-refl) r rings (c .0) in
     let L : Listed (Bonded t) 0 OneWriting (m .example .limit) r = H .listing .sound r listed in
-    let R : Reading 0 r s = reading-of r s (elem-of (same eqb) (same-of eqb eqb→eq) (same-self eqb eqb-refl) s (readingsOf r) (d .0)) in
+    let R : RingReading 0 r s = reading-of r s (elem-of (same eqb) (same-of eqb eqb→eq) (same-self eqb eqb-refl) s (readingsOf r) (d .0)) in
     record {
       listed = listed;
       takes = a .0;

@@ -10,7 +10,7 @@ use lib.Dec.{T, eqb, leb, ltb, eqb→eq, eqb-refl, leb→le, ltb→lt, T-not}
 use lib.ListN.{length, getD}
 use Rattle.graph.specs.Lists.{_∈_, numbersFrom, every}
 use Rattle.graph.specs.Graph.{Ring}
-use Rattle.graph.specs.Writing.{Reading, OneWriting}
+use Rattle.graph.specs.Writing.{RingReading, OneWriting}
 use Rattle.graph.specs.Levels.{elem}
 use Rattle.graph.proofs.Lists.{and-T, T-and, every-of, gather-of, count-of, count-has, length-made, getD-made}
 use Rattle.graph.proofs.Levels.{elem-of}
@@ -72,7 +72,7 @@ module _ (r s : List ℕ) where
   reads-at : (at : ℕ → ℕ) → s ≡ map (λ i. getD r (at i) 0) (numbersFrom (length r) 0) → (length s ≡ length r) × ((i : ℕ) → i < length r → getD s i 0 ≡ getD r (at i) 0)
   reads-at at e = (ap length e ∙ length-made (λ i. getD r (at i) 0) (length r), λ i l. ap (λ xs. getD xs i 0) e ∙ getD-made (λ i. getD r (at i) 0) 0 (length r) i l)
 
-  pub reading-of : s ∈ readingsOf r → Reading 0 r s
+  pub reading-of : s ∈ readingsOf r → RingReading 0 r s
   reading-of m = go (List·Memᴰ·cases-cons (from .2))
     where
       from : (start : ℕ) × (start ∈ numbersFrom (length r) 0) × (s ∈ readingsFrom r start)
@@ -81,7 +81,7 @@ module _ (r s : List ℕ) where
       below : from .0 < length r
       below = omega (arith, count-of (length r) 0 (from .1))
 
-      go : (s ≡ onwardsFrom r (from .0)) ⊎ (s ∈ backwardsFrom r (from .0) ∷ []) → Reading 0 r s
+      go : (s ≡ onwardsFrom r (from .0)) ⊎ (s ∈ backwardsFrom r (from .0) ∷ []) → RingReading 0 r s
       go (inl e) = let w = reads-at (λ i. (from .0 + i) % length r) e in record { alike = w .0; start = from .0; starts = below; reads = inl (w .1) }
       go (inr b) =
           let w = reads-at (λ i. (from .0 + (length r - i)) % length r) (List·Memᴰ·eq-of-singleton b) in

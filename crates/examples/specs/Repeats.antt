@@ -16,7 +16,7 @@ use lib.Dec.{T, ltb}
 use lib.ListN.{length, getD}
 use Rattle.graph.specs.Lists.{_∈_, numbersFrom, every}
 use Rattle.graph.specs.Graph.{ShortestPathRing}
-use Rattle.graph.specs.Writing.{Reading, OneWriting}
+use Rattle.graph.specs.Writing.{RingReading, OneWriting}
 use Rattle.network.specs.Network.{Bonded, neighbours}
 use Rattle.examples.specs.Examples.{Example, rowsTable, P4}
 use Rattle.examples.specs.NearMisses.{RingTest, distancesBy, pairsFit}
@@ -43,7 +43,7 @@ pub record TakenTwice (m : Repeat) : Type 0 where
   pub listed : m .ring ∈ m .example .rings
   pub takes : T (m .test (length (m .example .rows)) (rowsTable (m .example .rows)) (m .ring))
   pub takes-other : T (m .test (length (m .example .rows)) (rowsTable (m .example .rows)) (m .other))
-  pub reading : Reading 0 (m .ring) (m .other)
+  pub reading : RingReading 0 (m .ring) (m .other)
   pub shortest : ShortestPathRing (Bonded (rowsTable (m .example .rows))) 0 (m .other)
   pub not-written : OneWriting (m .other) → ⊥
 

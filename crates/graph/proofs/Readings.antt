@@ -8,7 +8,7 @@ use native.Mathlib.Decide.{decLe, decLt}
 use native.Mathlib.Omega.{arith}
 use lib.ListN.{length, getD, length-map}
 use Rattle.graph.specs.Graph.{around, Distance, Ring, ShortestPathRing}
-use Rattle.graph.specs.Writing.{Onwards, Backwards, Reading}
+use Rattle.graph.specs.Writing.{Onwards, Backwards, RingReading}
 use Rattle.graph.proofs.Lists.{getD-map}
 use Rattle.graph.proofs.Distances.{distance-back}
 use Rattle.graph.proofs.Rings.{ring-by-distances}
@@ -58,7 +58,7 @@ module _ {Vertex : Type 0} (o : Vertex) where
     at-j : getD s j o ≡ getD r y o
     alike : Chord (length r) (j - i) x y
 
-  pair : (r s : List Vertex) → Reading o r s → (i j : ℕ) → i < j → j < length r → Pair r s i j
+  pair : (r s : List Vertex) → RingReading o r s → (i j : ℕ) → i < j → j < length r → Pair r s i j
   pair r s R i j l k = go (R .reads)
     where
       lm : R .start < length r
@@ -80,7 +80,7 @@ module _ {Vertex : Type 0} (o : Vertex) where
       go (inl f) = from (R .start + i) (R .start + j) (omega (arith, lm)) (omega (arith, lm)) (f i (omega arith)) (f j k) (inl (omega arith))
       go (inr f) = from (R .start + (length r - i)) (R .start + (length r - j)) (omega (arith, lm)) (omega (arith, lm)) (f i (omega arith)) (f j k) (inr (omega arith))
 
-  module _ (Bonded : Vertex → Vertex → Type 0) (back : (x y : Vertex) → Bonded x y → Bonded y x) (r s : List Vertex) (R : Reading o r s) where
+  module _ (Bonded : Vertex → Vertex → Type 0) (back : (x y : Vertex) → Bonded x y → Bonded y x) (r s : List Vertex) (R : RingReading o r s) where
     pub reading-ring : Ring Bonded o r → Ring Bonded o s
     reading-ring h = record {
       three = omega (arith, R .alike, h .three);
@@ -121,7 +121,7 @@ module _ {Vertex : Type 0} (o : Vertex) where
             (subst (λ d. Distance Bonded (getD r y o) (getD r x o) d) (c .1) (h .shortest y x (c .0) lx))
 
   -- every place of r is read
-  pub reaches : (r s : List Vertex) (R : Reading o r s) (p : ℕ) → p < length r → (i : ℕ) × (i < length r) × (getD s i o ≡ getD r p o) × (i ≡ 0 → p ≡ R .start)
+  pub reaches : (r s : List Vertex) (R : RingReading o r s) (p : ℕ) → p < length r → (i : ℕ) × (i < length r) × (getD s i o ≡ getD r p o) × (i ≡ 0 → p ≡ R .start)
   reaches r s R p l = go (R .reads) (decLe (R .start) p) (decLt (R .start) p)
     where
       lm : R .start < length r
@@ -157,7 +157,7 @@ turn-backwards k a b g l m = go ((b + g) % k) (wrap k (b + g) (omega arith)) ∙
     go x (inr h) = ap (λ y. y % k) (let e : a + (k - x) ≡ a + (k - b) + (k - g) = omega arith in e)
 
 module _ {Vertex : Type 0} (o : Vertex) where
-  pub reading-self : (r : List Vertex) → 0 < length r → Reading o r r
+  pub reading-self : (r : List Vertex) → 0 < length r → RingReading o r r
   reading-self r l = record {
     alike = refl;
     start = 0;
@@ -166,7 +166,7 @@ module _ {Vertex : Type 0} (o : Vertex) where
   }
 
   -- a reading of a reading is a reading
-  pub reading-trans : (r s u : List Vertex) → Reading o r s → Reading o s u → Reading o r u
+  pub reading-trans : (r s u : List Vertex) → RingReading o r s → RingReading o s u → RingReading o r u
   reading-trans r s u R S = go (R .reads) (S .reads)
     where
       a : ℕ
@@ -184,10 +184,10 @@ module _ {Vertex : Type 0} (o : Vertex) where
       backwards : Backwards o s u b → (i : ℕ) → i < length r → getD u i o ≡ getD s ((b + (length r - i)) % length r) o
       backwards f i l = subst (λ m. getD u i o ≡ getD s ((b + (m - i)) % m) o) (R .alike) (f i (omega (arith, R .alike)))
 
-      from : (c : ℕ) → c < length r → Onwards o r u c ⊎ Backwards o r u c → Reading o r u
+      from : (c : ℕ) → c < length r → Onwards o r u c ⊎ Backwards o r u c → RingReading o r u
       from c l f = record { alike = S .alike ∙ R .alike; start = c; starts = l; reads = f }
 
-      go : Onwards o r s a ⊎ Backwards o r s a → Onwards o s u b ⊎ Backwards o s u b → Reading o r u
+      go : Onwards o r s a ⊎ Backwards o r s a → Onwards o s u b ⊎ Backwards o s u b → RingReading o r u
       go (inl f) (inl g) = from ((a + b) % length r) (mod-lt (a + b) (omega (arith, lb))) (inl (λ i l.
           onwards g i l ∙ f ((b + i) % length r) (mod-lt (b + i) (omega arith)) ∙ ap (λ x. getD r x o) (turn-onwards (length r) a b i)))
       go (inl f) (inr g) = from ((a + b) % length r) (mod-lt (a + b) (omega (arith, lb))) (inr (λ i l.
@@ -217,7 +217,7 @@ round-back k m p x y lm lp (inr b) (inl c) l = omega arith
 round-back k m p x y lm lp (inr b) (inr c) l = omega arith
 
 module _ {Vertex : Type 0} (o : Vertex) where
-  pub reading-back : (r s : List Vertex) → Reading o r s → Reading o s r
+  pub reading-back : (r s : List Vertex) → RingReading o r s → RingReading o s r
   reading-back r s R = go (R .reads)
     where
       lm : R .start < length r
@@ -226,7 +226,7 @@ module _ {Vertex : Type 0} (o : Vertex) where
       e : length s ≡ length r
       e = R .alike
 
-      go : Onwards o r s (R .start) ⊎ Backwards o r s (R .start) → Reading o s r
+      go : Onwards o r s (R .start) ⊎ Backwards o r s (R .start) → RingReading o s r
       go (inl f) = record { alike = sym e; start = (length r - R .start) % length r; starts = rw e ln; reads = inl (λ p l. rw e (sym (at p (omega (arith, e))))) }
         where
           n : ℕ
@@ -255,7 +255,7 @@ module _ {Vertex : Type 0} (o : Vertex) where
               (mod-lt (R .start + (length r - (R .start + (length r - p)) % length r)) (omega arith)))
 
 -- a reading under new names
-pub reading-map : {A B : Type 0} (f : A → B) (a : A) (b : B) (r s : List A) → Reading a r s → Reading b (map f r) (map f s)
+pub reading-map : {A B : Type 0} (f : A → B) (a : A) (b : B) (r s : List A) → RingReading a r s → RingReading b (map f r) (map f s)
 reading-map f a b r s R = record { alike = length-map s f ∙ R .alike ∙ sym e; start = R .start; starts = omega (arith, e, R .starts); reads = go (R .reads) }
   where
     e : length (map f r) ≡ length r

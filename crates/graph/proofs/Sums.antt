@@ -5,7 +5,7 @@ use mathlib.Core.List.{List, [], _∷_}
 use Prim.Native.Nat.{ℕ, zero, suc, _+_, _-_, _%_, _<_}
 use native.Mathlib.Omega.{arith}
 use lib.ListN.{length, getD}
-use Rattle.graph.specs.Writing.{Onwards, Backwards, Reading}
+use Rattle.graph.specs.Writing.{Onwards, Backwards, RingReading}
 use Rattle.graph.specs.Counts.{sumOf}
 use Rattle.graph.proofs.Counts.{sumTo, sum-same}
 use Rattle.graph.proofs.Readings.{wrap, wrapped}
@@ -59,7 +59,7 @@ round-backwards g k m l =
     second = sum-same (λ i. g ((m + (k - (suc m + i))) % k)) (λ i. g (suc m + (k - suc m - suc i))) (k - suc m)
         (λ i h. ap g (wrapped k (m + (k - (suc m + i))) ((m + (k - (suc m + i))) % k) (suc m + (k - suc m - suc i)) (wrap k (m + (k - (suc m + i))) (omega arith)) (inl (omega arith))))
 
-pub reading-sum : {A : Type 0} (f : A → ℕ) (o : A) (r s : List A) → Reading o r s → sumOf f s ≡ sumOf f r
+pub reading-sum : {A : Type 0} (f : A → ℕ) (o : A) (r s : List A) → RingReading o r s → sumOf f s ≡ sumOf f r
 reading-sum f o r s R =
     by-places f o s ∙ ap (sumTo (λ i. f (getD s i o))) (R .alike) ∙ go (R .reads) ∙ sym (by-places f o r)
   where

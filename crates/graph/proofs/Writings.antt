@@ -11,7 +11,7 @@ use lib.Seq.{ext-getD}
 use Rattle.graph.specs.Lists.{numbersFrom}
 use Rattle.graph.specs.Graph.{Ring}
 use Rattle.graph.specs.Standing.{OneEach}
-use Rattle.graph.specs.Writing.{Onwards, Backwards, Reading, OneWriting}
+use Rattle.graph.specs.Writing.{Onwards, Backwards, RingReading, OneWriting}
 use Rattle.graph.proofs.Lists.{length-made, getD-made}
 use Rattle.graph.proofs.Readings.{Wrapped, wrap, wrapped, reaches, reading-self, reading-shortest, reading-back}
 
@@ -37,7 +37,7 @@ least-place r (suc (suc n)) h = go (least-place r (suc n) (omega arith))
             at i l (no e) = omega (arith, t .2 i (omega arith))
 
 -- at most one
-pub writing-unique : (r s t : List ℕ) → Reading 0 r s → Reading 0 r t → OneWriting s → OneWriting t → 3 ≤ length r → s ≡ t
+pub writing-unique : (r s t : List ℕ) → RingReading 0 r s → RingReading 0 r t → OneWriting s → OneWriting t → 3 ≤ length r → s ≡ t
 writing-unique r s t R S u v h = same (R .reads) (S .reads)
   where
     e : length s ≡ length r
@@ -53,14 +53,14 @@ writing-unique r s t R S u v h = same (R .reads) (S .reads)
       wrapped (length r) (m + (length r - 0)) ((m + (length r - 0)) % length r) m (wrap (length r) (m + (length r - 0)) (omega arith)) (inr (omega arith)),
     )
 
-    head : (s : List ℕ) (R : Reading 0 r s) → getD s 0 0 ≡ getD r (R .start) 0
+    head : (s : List ℕ) (R : RingReading 0 r s) → getD s 0 0 ≡ getD r (R .start) 0
     head s R = go (R .reads)
       where
         go : Onwards 0 r s (R .start) ⊎ Backwards 0 r s (R .start) → getD s 0 0 ≡ getD r (R .start) 0
         go (inl g) = g 0 (omega arith) ∙ ap (λ n. getD r n 0) (zero-at (R .start) (R .starts) .0)
         go (inr g) = g 0 (omega arith) ∙ ap (λ n. getD r n 0) (zero-at (R .start) (R .starts) .1)
 
-    less : (s t : List ℕ) (R : Reading 0 r s) (S : Reading 0 r t) → OneWriting s → (S .start ≡ R .start) ⊎ (getD s 0 0 < getD t 0 0)
+    less : (s t : List ℕ) (R : RingReading 0 r s) (S : RingReading 0 r t) → OneWriting s → (S .start ≡ R .start) ⊎ (getD s 0 0 < getD t 0 0)
     less s t R S u = go (reaches 0 r s R (S .start) (S .starts))
       where
         go : ((i : ℕ) × (i < length r) × (getD s i 0 ≡ getD r (S .start) 0) × (i ≡ 0 → S .start ≡ R .start)) → (S .start ≡ R .start) ⊎ (getD s 0 0 < getD t 0 0)
@@ -167,7 +167,7 @@ read-at : (r : List ℕ) (q : ℕ → ℕ) (i : ℕ) → i < length r → getD (
 unfolding read
 read-at r q i l = getD-made (λ i. getD r (q i) 0) 0 (length r) i l
 
-pub writing-exists : (r : List ℕ) → 3 ≤ length r → ((i j : ℕ) → i < j → j < length r → getD r i 0 ≢ getD r j 0) → (s : List ℕ) × Reading 0 r s × OneWriting s
+pub writing-exists : (r : List ℕ) → 3 ≤ length r → ((i j : ℕ) → i < j → j < length r → getD r i 0 ≢ getD r j 0) → (s : List ℕ) × RingReading 0 r s × OneWriting s
 writing-exists r h d = go (decLt (getD r ((m + 1) % length r) 0) (getD r ((m + (length r - 1)) % length r) 0))
   where
     t : (m : ℕ) × (m < length r) × ((i : ℕ) → i < length r → getD r m 0 ≤ getD r i 0)
@@ -182,7 +182,7 @@ writing-exists r h d = go (decLt (getD r ((m + 1) % length r) 0) (getD r ((m + (
     bw : ℕ → ℕ
     bw i = (m + (length r - i)) % length r
 
-    go : Dec (getD r ((m + 1) % length r) 0 < getD r ((m + (length r - 1)) % length r) 0) → (s : List ℕ) × Reading 0 r s × OneWriting s
+    go : Dec (getD r ((m + 1) % length r) 0 < getD r ((m + (length r - 1)) % length r) 0) → (s : List ℕ) × RingReading 0 r s × OneWriting s
     go (yes c) = (
       read r fw,
       record { alike = read-length r fw; start = m; starts = t .1; reads = inl (read-at r fw) },
@@ -195,13 +195,13 @@ writing-exists r h d = go (decLt (getD r ((m + 1) % length r) 0) (getD r ((m + (
     )
 
 pub exactly-one-writing : (Bonded : ℕ → ℕ → Type 0) (r : List ℕ) → Ring Bonded 0 r
-    → (s : List ℕ) × Reading 0 r s × OneWriting s × ((t : List ℕ) → Reading 0 r t → OneWriting t → t ≡ s)
+    → (s : List ℕ) × RingReading 0 r s × OneWriting s × ((t : List ℕ) → RingReading 0 r t → OneWriting t → t ≡ s)
 exactly-one-writing Bonded r R =
     let w = writing-exists r (R .three) (R .different) in
     (w .0, w .1, w .2, λ t T v. writing-unique r t (w .0) T (w .1) v (w .2) (R .three))
 
 -- a network of atoms has one writing of each ring
-pub one-each : (Bonded : ℕ → ℕ → Type 0) → ((x y : ℕ) → Bonded x y → Bonded y x) → OneEach Bonded 0 (Reading 0) OneWriting
+pub one-each : (Bonded : ℕ → ℕ → Type 0) → ((x y : ℕ) → Bonded x y → Bonded y x) → OneEach Bonded 0 (RingReading 0) OneWriting
 one-each Bonded back = record {
   self = λ r h. reading-self 0 r (omega arith);
   alike = λ r s R. R .alike;

@@ -2,7 +2,7 @@
 --
 --   Onwards o r s start      s is r read from the place `start` on, round the ring
 --   Backwards o r s start    s is r read from there the other way round
---   Reading o r s            s is the ring r read from one of its places on, round the ring, onwards or backwards
+--   RingReading o r s            s is the ring r read from one of its places on, round the ring, onwards or backwards
 --   OneWriting r             the smallest atom stands first, and the second is smaller than the last
 use mathlib.Core.Path.{_≡_}
 use mathlib.Core.Logic.{_⊎_}
@@ -17,7 +17,7 @@ module _ {Vertex : Type 0} (o : Vertex) where
   abbrev pub Backwards : List Vertex → List Vertex → ℕ → Type 0
   Backwards r s start = (i : ℕ) → i < length r → getD s i o ≡ getD r ((start + (length r - i)) % length r) o
 
-  pub record Reading (r s : List Vertex) : Type 0 where
+  pub record RingReading (r s : List Vertex) : Type 0 where
     pub alike : length s ≡ length r
     pub start : ℕ
     pub starts : start < length r

@@ -1,5 +1,6 @@
 -- Laws of bond tables and verdicts.
 pub mod PlaceFaults
+pub mod Stands
 pub mod Verdicts
 pub mod FirstFaults
 pub mod TableFaults

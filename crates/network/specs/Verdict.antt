@@ -13,6 +13,7 @@
 --   placeFault n t i            7 to 10: the fault of word i alone, or 0
 --   WordsBelow n t              each neighbour is an atom: below n
 --   stands t x y k p            x stands at one of the k places of row y from p on
+--   inRow t x y                 x stands in row y, and the table has that row
 --   bondFault t i               11: word i is a neighbour in whose row the number of word i's own row does not stand; else 0
 --   orElse c i later            fault c at word i; where c is 0 there is none, and what comes later decides
 --   firstFault fault k i later  the first fault among the k words from i on, else what comes later
@@ -22,7 +23,7 @@ use mathlib.Core.Path.{_≡_}
 use mathlib.Core.List.{List}
 use mathlib.Core.Bool.{Bool, true, false, cond, not, _&&_}
 use Prim.Native.Nat.{ℕ, zero, suc, _+_, _-_, _*_, _/_, _%_, _<_}
-use lib.Dec.{eqb, leb}
+use lib.Dec.{eqb, leb, ltb}
 use lib.ListN.{length, getD}
 use Rattle.network.specs.declared.Answer.{Answer}
 use Rattle.network.specs.Maxima.{atomsMost, places, free}
@@ -69,6 +70,9 @@ WordsBelow n t = (i : ℕ) → i < length t → (getD t i 0 ≡ free → ⊥) �
 unfoldable pub stands : List ℕ → ℕ → ℕ → ℕ → ℕ → Bool
 stands t x y zero p = false
 stands t x y (suc k) p = cond (eqb (getD t (y * places + p) 0) x) true (stands t x y k (p + 1))
+
+unfoldable pub inRow : List ℕ → ℕ → ℕ → Bool
+inRow t x y = cond (ltb y (length t / places)) (stands t x y places 0) false
 
 unfoldable pub bondFault : List ℕ → ℕ → ℕ
 bondFault t i = cond (eqb (getD t i 0) free) 0 (cond (stands t (i / places) (getD t i 0) places 0) 0 11)

@@ -3,8 +3,10 @@
 //
 // A bond table has a row of 8 places for each atom; a place holds a neighbour or is free.
 ghost use mathlib.Core.Path.{_≡_};
+ghost use Prim.Native.Nat.{_+_, _*_, _≤_};
+ghost use lib.ListN.{length};
 ghost use Rattle.network.specs.Maxima.{atomsMost, places, free};
-ghost use Rattle.network.specs.Verdict.{accepted, refusal, atomsOrNone, sizes};
+ghost use Rattle.network.specs.Verdict.{accepted, refusal, atomsOrNone, sizes, stands, inRow};
 
 // A network of so many atoms.
 pub struct Network {
@@ -84,6 +86,31 @@ pub fn sizes(n: usize, table: &[u16]) -> Answer
         return Answer::refused(4);
     }
     Answer::accepted()
+}
+
+// Whether x stands in row y of a table that has such a row.
+pub fn stands_in(table: &[u16], x: usize, y: usize) -> bool
+    ensures { λ r. ⌜ r ≡ inRow (now (table .entry)) x y ⌝ }
+{
+    if table.len() / Network::PLACES <= y {
+        return false;
+    }
+    row_has(table, x, y)
+}
+
+// Whether x stands in row y.
+fn row_has(table: &[u16], x: usize, y: usize) -> bool
+    requires { ⌜ y * places + places ≤ length (now table) ⌝ }
+    ensures { λ r. ⌜ r ≡ stands (now (table .entry)) x y places 0 ⌝ }
+{
+    let mut p = 0;
+    while p < Network::PLACES {
+        if table[y * Network::PLACES + p] as usize == x {
+            return true;
+        }
+        p += 1;
+    }
+    false
 }
 
 // The constants of the type are the numbers of the specifications.

@@ -3,7 +3,7 @@ use mathlib.Core.Path.{_≡_, sym, _∙_, ap, subst₂}
 use mathlib.Core.List.{List}
 use Prim.Native.Nat.{ℕ, suc}
 use lib.ListN.{length, length-map}
-use Rattle.graph.specs.Writing.{Reading, OneWriting}
+use Rattle.graph.specs.Writing.{RingReading, OneWriting}
 use Rattle.graph.specs.Listing.{RingListing}
 use Rattle.graph.specs.Carried.{Renaming, KeptBy, CarriedTo}
 use Rattle.graph.proofs.Writings.{one-each}
@@ -55,12 +55,12 @@ module _ (n : ℕ) (t names after : List ℕ) (N : IsNetwork n t) (O : OneToOne 
         back′ : (x y : ℕ) → Bonded after x y → Bonded after y x
         back′ = bonded-back n after (R .network)
 
-        carried : CarriedTo (Reading 0) OneWriting (name names) xs ys
+        carried : CarriedTo (RingReading 0) OneWriting (name names) xs ys
         carried = carried-to ring-order-strict (one-each (Bonded t) back) (one-each (Bonded after) back′) renaming renaming-home back back′
             (reading-map (name names) 0 0) (reading-map (name (homeNames n names)) 0 0) limit xs ys X Y
 
         -- a ring keeps its length
-        long : KeptBy (Reading 0) OneWriting (name names) xs ys length length
+        long : KeptBy (RingReading 0) OneWriting (name names) xs ys length length
         long r s m n w = w .0 .alike ∙ length-map r (name names)
 
 -- the same of a call that is accepted

@@ -12,14 +12,14 @@ use Prim.Native.Nat.{ℕ, zero, suc, _<_}
 use lib.Dec.{eqb}
 use lib.ListN.{length}
 use Rattle.graph.specs.Lists.{numbersFrom}
-use Rattle.graph.specs.Writing.{Reading, OneWriting}
+use Rattle.graph.specs.Writing.{RingReading, OneWriting}
 use Rattle.graph.specs.Counts.{ofLength, lengthsOf, wordsOf}
 use Rattle.graph.specs.Carried.{CarriedTo}
 use Rattle.names.specs.Names.{name}
 
 pub record RingsRenumbered (names : List ℕ) (xs ys : List (List ℕ)) : Type 0 where
   -- the rings of ys are exactly those of xs under their new names, one for one, and as many
-  pub carried : CarriedTo (Reading 0) OneWriting (name names) xs ys
+  pub carried : CarriedTo (RingReading 0) OneWriting (name names) xs ys
   -- counts for each length, the lengths added up, words needed
   pub counts : (k : ℕ) → ofLength k xs ≡ ofLength k ys
   pub lengths : lengthsOf xs ≡ lengthsOf ys

@@ -3,6 +3,7 @@
 --   listing-text-one    two texts of a network are the same
 --   read-text-one       two texts of a file are the same, where it gives one network
 --   file-text-one       two texts of a network file are the same
+--   molfile-text-one    two texts of a molfile are the same
 --   responds-one        two outcomes of responding are the same, where there is one text
 --   enough-is-read      the text of a network file's first `fileBytes` bytes is the text of the file
 use mathlib.Core.Path.{_≡_, sym, _∙_, ap, subst}
@@ -23,8 +24,9 @@ use Rattle.bonds.specs.Outcome.{GivesOne}
 use Rattle.bnw.specs.Reading.{Bytes, readVerdict}
 use Rattle.bnw.proofs.RoundTrips.{file-gives-one}
 use Rattle.bnw.proofs.Longer.{longer-refused, first-judged}
+use Rattle.molfile.proofs.Laws.{molfile-gives-one}
 use Rattle.text.specs.Lines.{refusalText}
-use Rattle.report.specs.Report.{fileBytes, tableWords, listWords, textBytes, settledText, ListingText, ReadText, FileText, Responds}
+use Rattle.report.specs.Report.{fileBytes, tableWords, listWords, textBytes, settledText, ListingText, ReadText, FileText, MolfileText, Responds}
 
 pub listing-text-one : (n bonds : ℕ) (t s u : List ℕ) → ListingText n bonds t s → ListingText n bonds t u → s ≡ u
 listing-text-one n bonds t s u L M =
@@ -45,6 +47,9 @@ read-text-one {says = says} single s u F G =
 
 pub file-text-one : (file s u : List ℕ) → FileText file s → FileText file u → s ≡ u
 file-text-one file = read-text-one (file-gives-one file)
+
+pub molfile-text-one : (file s u : List ℕ) → MolfileText file s → MolfileText file u → s ≡ u
+molfile-text-one file = read-text-one (molfile-gives-one file)
 
 pub responds-one : {Text : List ℕ → Type 0} {before one other : List ℕ} {m k : ℕ} → ((s u : List ℕ) → Text s → Text u → s ≡ u)
     → Responds Text before one m → Responds Text before other k → (m ≡ k) × (one ≡ other)

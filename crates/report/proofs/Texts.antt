@@ -18,11 +18,10 @@ use Rattle.census.specs.declared.Census.{Census}
 use Rattle.census.specs.Census.{encodeBy, encode, countsOf, censusOf, afterList, Searched, ListOutcome}
 use Rattle.census.proofs.Passed.{limit-default, reached-exactly}
 use Rattle.census.proofs.Settled.{code, told-accepted, told-refused, room-enough}
-use Rattle.bonds.specs.declared.NetworkRead.{NetworkRead}
+use Rattle.bonds.specs.declared.Reading.{Reading}
 use Rattle.bonds.specs.Bonds.{Bond, tableOf}
 use Rattle.bonds.specs.Outcome.{ReadingOutcome}
 use Rattle.bonds.proofs.Readings.{table-is}
-use Rattle.bnw.specs.Reading.{readVerdict, readValue, IsFile, ReadOutcome}
 use Rattle.page.specs.declared.Pen.{Pen}
 use Rattle.page.specs.Page.{Page, page, firstPen, putAll}
 use Rattle.page.proofs.Pages.{text-fits}
@@ -113,7 +112,7 @@ module _ (n bonds : ℕ) (t d d′ l l′ : List ℕ) (c : Census) (N : IsNetwor
         }
 
 -- reading a file into a table, and listing the network that it gives, gives the file's text
-module _ {says : Answer} {value : ℕ → ℤ} {Gives : ℕ → List Bond → Type 0} {table table′ : List ℕ} {r : NetworkRead} (R : ReadingOutcome says value Gives table table′ r) where
+module _ {says : Answer} {value : ℕ → ℤ} {Gives : ℕ → List Bond → Type 0} {table table′ : List ℕ} {r : Reading} (R : ReadingOutcome says value Gives table table′ r) where
   pub read-refused : (r .answer .code ≡ 0 → ⊥) → ReadText says Gives (refusalText (r .answer))
   read-refused z = record {
     refused = λ _. ap refusalText (R .verdict);
@@ -148,15 +147,14 @@ pub responds-short : {Text : List ℕ → Type 0} {before : List ℕ} → length
 responds-short h = record { short = λ _. (refl, refl); written = λ room. absurd (omega arith) }
 
 -- what is written of a reading, refused or accepted
-module _ {r : NetworkRead} {table before after : List ℕ} {bytes : ℕ} where
+module _ {r : Reading} {table before after : List ℕ} {bytes : ℕ} where
   pub writes-refusal : (r .answer .code ≡ 0 → ⊥) → TextStands (refusalText (r .answer)) before after bytes → WritesReading r table before after bytes
   writes-refusal z S = record { refused = λ _. S; listed = λ y. absurd (z y) }
 
   pub writes-network : r .answer .code ≡ 0 → ListsText (r .atoms) (r .bonds) (take (places * r .atoms) table) before after bytes → WritesReading r table before after bytes
   writes-network z L = record { refused = λ y. absurd (y z); listed = λ _. L }
 
--- a network file, read into a table of the most words, is judged as its text has it
-pub file-judged : {file table table′ : List ℕ} {r : NetworkRead} → length table ≡ tableWords → ReadOutcome file table table′ r
-    → ReadingOutcome (readVerdict file tableWords) (readValue file) (IsFile file) table table′ r
-file-judged {file = file} {table = table} {table′ = table′} {r = r} words R =
-    subst (λ (k : ℕ). ReadingOutcome (readVerdict file k) (readValue file) (IsFile file) table table′ r) words R
+-- a file that is read into a table of the most words is judged as its text has it
+pub most-words : (verdict : ℕ → Answer) {value : ℕ → ℤ} {Gives : ℕ → List Bond → Type 0} {table table′ : List ℕ} {r : Reading} → length table ≡ tableWords
+    → ReadingOutcome (verdict (length table)) value Gives table table′ r → ReadingOutcome (verdict tableWords) value Gives table table′ r
+most-words verdict {value = value} {Gives = Gives} {table = table} {table′ = table′} {r = r} words R = subst (λ (k : ℕ). ReadingOutcome (verdict k) value Gives table table′ r) words R

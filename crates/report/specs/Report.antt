@@ -1,6 +1,7 @@
--- What the listing program prints for a network file (document 01, "The network file"), and what is printed for a file of any format.
+-- What the listing programs print for a file: a network file (document 01, "The network file") or a molfile (document 02, request 1).
 --
---   fileBytes                     the bytes of a file that are read: one more than the greatest file has
+--   fileBytes                     the bytes of a network file that are read: one more than the greatest file has
+--   molfileBytes                  the bytes of a molfile that are read, at most: a longer one is judged by its first bytes
 --   tableWords                    the words of the table lent to the reader: enough for any network
 --   listWords                     the words of the list buffer
 --   textBytes                     the bytes that hold any text: five for each word of the list, and the other lines
@@ -10,6 +11,7 @@
 --   NetworkText Gives text        the text of the network that a file gives
 --   ReadText says Gives text      the text of a file: of the reader's refusal, or of the network
 --   FileText file text            the text of a network file
+--   MolfileText file text         the text of a molfile
 --   TextStands text before after bytes    the text stands at the front of the lent bytes, whose rest stays, and its length is answered
 --   ListsText n bonds t before after bytes    the text of a network stands there
 --   WritesReading r table before after bytes  the text of a reading stands there: of the refusal, or of the network whose rows stand first
@@ -28,14 +30,19 @@ use Rattle.network.specs.Maxima.{atomsMost, places}
 use Rattle.network.specs.Network.{Bonded, Counted}
 use Rattle.ring.specs.Maxima.{allowanceMost}
 use Rattle.census.specs.Census.{limitOf, countsOf, afterList}
-use Rattle.bonds.specs.declared.NetworkRead.{NetworkRead}
+use Rattle.bonds.specs.declared.Reading.{Reading}
 use Rattle.bonds.specs.Bonds.{Bond, ValidBonds, tableOf}
 use Rattle.bnw.specs.File.{headLength, bondLength, bondsMost}
 use Rattle.bnw.specs.Reading.{readVerdict, IsFile}
+use Rattle.molfile.specs.Molfile.{MolfileOf}
+use Rattle.molfile.specs.Judging.{molfileVerdict}
 use Rattle.text.specs.Lines.{sizesText, ringText, countsText, totalText, refusalText}
 
 abbrev pub fileBytes : ℕ
 fileBytes = headLength + bondLength * bondsMost + 1
+
+abbrev pub molfileBytes : ℕ
+molfileBytes = 1048576
 
 abbrev pub tableWords : ℕ
 tableWords = atomsMost * places
@@ -72,6 +79,9 @@ pub record ReadText (says : Answer) (Gives : ℕ → List Bond → Type 0) (text
 abbrev pub FileText : List ℕ → List ℕ → Type 0
 FileText file = ReadText (readVerdict file tableWords) (IsFile file)
 
+abbrev pub MolfileText : List ℕ → List ℕ → Type 0
+MolfileText file = ReadText (molfileVerdict file tableWords) (MolfileOf file)
+
 pub record TextStands (text before after : List ℕ) (bytes : ℕ) : Type 0 where
   pub long : bytes ≡ length text
   pub front : after ≡ text ++ drop (length text) before
@@ -81,7 +91,7 @@ pub record ListsText (n bonds : ℕ) (t before after : List ℕ) (bytes : ℕ) :
   pub lists : ListingText n bonds t text
   pub stands : TextStands text before after bytes
 
-pub record WritesReading (r : NetworkRead) (table before after : List ℕ) (bytes : ℕ) : Type 0 where
+pub record WritesReading (r : Reading) (table before after : List ℕ) (bytes : ℕ) : Type 0 where
   pub refused : (r .answer .code ≡ 0 → ⊥) → TextStands (refusalText (r .answer)) before after bytes
   pub listed : r .answer .code ≡ 0 → ListsText (r .atoms) (r .bonds) (take (places * r .atoms) table) before after bytes
 

@@ -1,5 +1,5 @@
-// What the listing program prints for a network file, as bytes in a lent buffer.
-use bonds::NetworkRead;
+// What the listing programs print for a network file and for a molfile, as bytes in a lent buffer.
+use bonds::Reading;
 use network::Answer;
 use network::Network;
 use ring::Ring;
@@ -9,10 +9,13 @@ ghost use lib.ListN.{length, take};
 ghost use Rattle.network.specs.Maxima.{places};
 ghost use Rattle.network.specs.Network.{IsNetwork};
 ghost use Rattle.text.specs.Lines.{refusalText};
-ghost use Rattle.report.specs.Report.{fileBytes, listWords, textBytes, FileText, ListsText, TextStands, WritesReading, Responds};
+ghost use Rattle.report.specs.Report.{fileBytes, molfileBytes, listWords, textBytes, FileText, MolfileText, ListsText, TextStands, WritesReading, Responds};
 
-// The bytes of a file that are read: one more than the greatest file has, so that any longer one is refused.
+// The bytes of a network file that are read: one more than the greatest file has, so that any longer one is refused.
 pub const FILE: usize = bnw::HEAD + bnw::BOND * bnw::BONDS + 1;
+
+// The bytes of a molfile that are read, at most: a longer one is judged by its first bytes.
+pub const MOLFILE: usize = 1048576;
 
 // The words of the list buffer.
 pub const LIST: usize = 32768;
@@ -21,7 +24,7 @@ pub const LIST: usize = 32768;
 // the other lines take at most 1,281.
 pub const TEXT: usize = 5 * LIST + 1281;
 
-// Writes what is printed for a file, and answers its length. Where fewer than TEXT bytes are lent, it writes nothing and answers 0.
+// Writes what is printed for a network file, and answers its length. Where fewer than TEXT bytes are lent, it writes nothing and answers 0.
 pub fn respond(file: &[u8], out: &mut [u8]) -> usize
     ensures { λ r. ⌜ Responds (FileText (now (file .entry))) (now (out .entry)) (now (out .exit)) r ⌝ }
 {
@@ -33,8 +36,20 @@ pub fn respond(file: &[u8], out: &mut [u8]) -> usize
     write_reading(reading, &table, out)
 }
 
+// Writes what is printed for a molfile, in the same way.
+pub fn respond_molfile(file: &[u8], out: &mut [u8]) -> usize
+    ensures { λ r. ⌜ Responds (MolfileText (now (file .entry))) (now (out .entry)) (now (out .exit)) r ⌝ }
+{
+    if out.len() < TEXT {
+        return 0;
+    }
+    let mut table = [0u16; Network::ATOMS * Network::PLACES];
+    let reading = molfile_reader::read(file, &mut table);
+    write_reading(reading, &table, out)
+}
+
 // The text of a reading: the line of the refusal, or the text of the network whose rows stand first in the table.
-fn write_reading(reading: NetworkRead, table: &[u16], out: &mut [u8]) -> usize
+fn write_reading(reading: Reading, table: &[u16], out: &mut [u8]) -> usize
     requires { ⌜ (reading .answer .code ≡ 0 → IsNetwork (reading .atoms) (take (places * reading .atoms) (now table))) × (textBytes ≤ length (now out)) ⌝ }
     ensures { λ r. ⌜ WritesReading reading (now (table .entry)) (now (out .entry)) (now (out .exit)) r ⌝ }
 {
@@ -76,5 +91,5 @@ fn refuse(answer: Answer, out: &mut [u8]) -> usize
 
 // The constants, in contracts.
 fn sizes_agree()
-    ensures { λ _. do ⌜ ((← ⟦FILE⟧ .entry) ≡ fileBytes) × ((← ⟦LIST⟧ .entry) ≡ listWords) × ((← ⟦TEXT⟧ .entry) ≡ textBytes) ⌝ }
+    ensures { λ _. do ⌜ ((← ⟦FILE⟧ .entry) ≡ fileBytes) × ((← ⟦MOLFILE⟧ .entry) ≡ molfileBytes) × ((← ⟦LIST⟧ .entry) ≡ listWords) × ((← ⟦TEXT⟧ .entry) ≡ textBytes) ⌝ }
 {}

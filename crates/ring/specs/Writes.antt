@@ -16,7 +16,7 @@ use Prim.Native.Nat.{ℕ, _+_, _-_, _%_}
 use lib.Dec.{leb}
 use lib.ListN.{length, getD, replicate}
 use Rattle.graph.specs.Lists.{numbersFrom}
-use Rattle.graph.specs.Writing.{Reading, OneWriting}
+use Rattle.graph.specs.Writing.{RingReading, OneWriting}
 use Rattle.ring.specs.Maxima.{ringLeast, ringMost}
 
 abbrev pub padded : List ℕ → List ℕ
@@ -46,6 +46,6 @@ atomsFrom r start onwards = cond (notRing (length r) || leb (length r) start) (r
 
 pub record WritingPadded (r words : List ℕ) : Type 0 where
   pub writing : List ℕ
-  pub reading : Reading 0 r writing
+  pub reading : RingReading 0 r writing
   pub one : OneWriting writing
   pub filled : words ≡ padded writing

@@ -3,7 +3,7 @@
 // Each function passes on one call and has that call's contract; a slice crosses as pointer and length, an
 // answer that holds an enum as a flat struct (`flat`).
 use bnw::FileWritten;
-use bonds::NetworkRead;
+use bonds::Reading;
 use flat::FlatCandidate;
 use flat::FlatCensus;
 use network::Answer;
@@ -13,7 +13,8 @@ ghost use Rattle.candidate.specs.CandidateOutcome.{CandidateOutcome};
 ghost use Rattle.census.specs.Census.{CountOutcome, ListOutcome};
 ghost use Rattle.bnw.specs.Reading.{ReadOutcome};
 ghost use Rattle.bnw.specs.Writing.{WriteOutcome};
-ghost use Rattle.report.specs.Report.{FileText, Responds};
+ghost use Rattle.molfile.specs.Judging.{MolfileOutcome};
+ghost use Rattle.report.specs.Report.{FileText, MolfileText, Responds};
 ghost use Rattle.distance.specs.Outcome.{DistancesOutcome};
 ghost use Rattle.renumber.specs.Outcome.{RenumberOutcome};
 ghost use Rattle.flat.specs.Flat.{flatCensus, flatCandidate, PassedOn};
@@ -94,10 +95,18 @@ pub extern "C" fn rings_renumber(
 
 // The network of a file.
 #[no_mangle]
-pub extern "C" fn rings_read(file: &[u8], table: &mut [u16]) -> NetworkRead
+pub extern "C" fn rings_read(file: &[u8], table: &mut [u16]) -> Reading
     ensures { λ r. ⌜ ReadOutcome (now (file .entry)) (now (table .entry)) (now (table .exit)) r ⌝ }
 {
     bnw_reader::read(file, table)
+}
+
+// The network of a molfile.
+#[no_mangle]
+pub extern "C" fn rings_read_molfile(file: &[u8], table: &mut [u16]) -> Reading
+    ensures { λ r. ⌜ MolfileOutcome (now (file .entry)) (now (table .entry)) (now (table .exit)) r ⌝ }
+{
+    molfile_reader::read(file, table)
 }
 
 // The file of a network.
@@ -108,10 +117,18 @@ pub extern "C" fn rings_write(n: usize, table: &[u16], file: &mut [u8]) -> FileW
     bnw_writer::write(n, table, file)
 }
 
-// What the listing program prints for a file.
+// What the listing program prints for a network file.
 #[no_mangle]
 pub extern "C" fn rings_report(file: &[u8], out: &mut [u8]) -> usize
     ensures { λ r. ⌜ Responds (FileText (now (file .entry))) (now (out .entry)) (now (out .exit)) r ⌝ }
 {
     report::respond(file, out)
+}
+
+// What the listing program for molfiles prints.
+#[no_mangle]
+pub extern "C" fn rings_report_molfile(file: &[u8], out: &mut [u8]) -> usize
+    ensures { λ r. ⌜ Responds (MolfileText (now (file .entry))) (now (out .entry)) (now (out .exit)) r ⌝ }
+{
+    report::respond_molfile(file, out)
 }

@@ -1,7 +1,7 @@
 // Printing of what calls answer: a census of rings, and what the reader of a file tells.
 use averages::Averages;
 use averages::Mean;
-use bonds::NetworkRead;
+use bonds::Reading;
 use census::Census;
 use ring::Ring;
 
@@ -58,7 +58,7 @@ fn count(k: usize, rings: u32) {
 }
 
 // The answer, atoms, bonds, and the count field of a refused file.
-pub fn reading(reading: NetworkRead) {
+pub fn reading(reading: Reading) {
     crate::text(b"read");
     crate::answer(reading.answer);
     crate::number(reading.atoms);
@@ -77,6 +77,8 @@ fn value(n: i32) {
         crate::text(b" -32768");
     } else if n == 251 {
         crate::text(b" 251");
+    } else if n == 999 {
+        crate::text(b" 999");
     } else if n == 1001 {
         crate::text(b" 1001");
     } else {

@@ -1,2 +1,2 @@
--- Looking through a table word by word, and through a row place by place.
+-- Looking through a table word by word.
 pub mod Scans

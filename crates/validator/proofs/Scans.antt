@@ -1,28 +1,11 @@
--- The two scans, from the start and from where a loop stands.
+-- The scan of a table, from the start and from where a loop stands.
 use mathlib.Core.Path.{_≡_, refl, sym, _∙_}
-use mathlib.Core.Bool.{true, false}
-use mathlib.Core.List.{List}
-use Prim.Native.Nat.{ℕ, zero, suc, _+_, _-_, _*_, _/_, _%_, _≤_, _<_}
+use Prim.Native.Nat.{ℕ, zero, suc, _+_, _-_, _/_, _%_, _≤_, _<_}
 use native.Mathlib.Nat.{sub-zero}
 use native.Mathlib.Omega.{arith}
-use lib.ListN.{getD}
-use borrow.Author.Tests.{eq-eqb, ne-eqb}
 use Rattle.network.specs.declared.Answer.{Answer}
 use Rattle.network.specs.Maxima.{places}
-use Rattle.network.specs.Verdict.{stands, firstFault, orElse, answer}
-
-module _ (t : List ℕ) (x y p : ℕ) (so-far : stands t x y places 0 ≡ stands t x y (places - p) p) where
-  pub stands-here : p < places → getD t (y * places + p) 0 ≡ x → true ≡ stands t x y places 0
-  unfolding stands
-  stands-here l h = let e : places - p ≡ suc (places - (p + 1)) = omega arith in sym (so-far ∙ rw e (simp (eq-eqb _ _ h)))
-
-  pub stands-next : p < places → (getD t (y * places + p) 0 ≡ x → ⊥) → stands t x y places 0 ≡ stands t x y (places - (p + 1)) (p + 1)
-  unfolding stands
-  stands-next l h = let e : places - p ≡ suc (places - (p + 1)) = omega arith in so-far ∙ rw e (simp (ne-eqb _ _ h))
-
-  pub stands-none : places ≤ p → false ≡ stands t x y places 0
-  unfolding stands
-  stands-none l = let e : places - p ≡ 0 = omega arith in sym (so-far ∙ rw e refl)
+use Rattle.network.specs.Verdict.{firstFault, orElse, answer}
 
 given : (c i : ℕ) (later : Answer) → (c ≡ 0 → ⊥) → orElse c i later ≡ answer c (i / places) (i % places)
 unfolding orElse

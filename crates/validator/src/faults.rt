@@ -2,10 +2,10 @@
 use network::Answer;
 use network::Network;
 ghost use mathlib.Core.Path.{_≡_};
-ghost use Prim.Native.Nat.{_+_, _*_, _≤_, _<_};
+ghost use Prim.Native.Nat.{_+_, _*_, _<_};
 ghost use lib.ListN.{length};
 ghost use Rattle.network.specs.Maxima.{places};
-ghost use Rattle.network.specs.Verdict.{accepted, faults, firstFault, placeFault, bondFault, stands, WordsBelow};
+ghost use Rattle.network.specs.Verdict.{accepted, faults, firstFault, placeFault, bondFault, WordsBelow};
 
 // The first of faults 7 to 11; 11 only where no word has another.
 pub fn faults_in(n: usize, table: &[u16]) -> Answer
@@ -98,23 +98,8 @@ fn bond_fault(n: usize, table: &[u16], i: usize) -> u8
     if word == Network::FREE {
         return 0;
     }
-    if stands_in(table, i / Network::PLACES, word as usize) {
+    if network::stands_in(table, i / Network::PLACES, word as usize) {
         return 0;
     }
     11
-}
-
-// Whether x stands in row y.
-fn stands_in(table: &[u16], x: usize, y: usize) -> bool
-    requires { ⌜ y * places + places ≤ length (now table) ⌝ }
-    ensures { λ r. ⌜ r ≡ stands (now (table .entry)) x y places 0 ⌝ }
-{
-    let mut p = 0;
-    while p < Network::PLACES {
-        if table[y * Network::PLACES + p] as usize == x {
-            return true;
-        }
-        p += 1;
-    }
-    false
 }

@@ -1,7 +1,8 @@
 use mathlib.Core.Path.{refl}
 use borrow.Author.Needs.{needs}
 use Rattle.bonds.proofs.Readings.{read-network}
-use Rattle.report.proofs.Texts.{responds-short, responds-reading, file-judged}
+use Rattle.bnw.specs.Reading.{readVerdict}
+use Rattle.report.proofs.Texts.{responds-short, responds-reading, most-words}
 use Rattle.report.proofs.respond.Statement.{statement}
 use Rattle.report.proofs.respond.Tie as tie
 
@@ -24,7 +25,7 @@ same-length : tie.Need-same-length
 same-length c = search needs
 
 returns-2 : tie.Need-returns-2
-returns-2 c = responds-reading (file-judged refl (c .before .before .before .before .before .before .read .ensures)) (c .before .before .before .before .before .before .before .before .if1 .left) (c .before .before .write-reading .ensures)
+returns-2 c = responds-reading (most-words (readVerdict _) refl (c .before .before .before .before .before .before .read .ensures)) (c .before .before .before .before .before .before .before .before .if1 .left) (c .before .before .write-reading .ensures)
 
 pub respond-spec : {M : Type 1} → statement M
 respond-spec =

@@ -1,5 +1,6 @@
 use Rattle.network.specs.Verdict.{WordsBelow}
 use native.Mathlib.Omega.{arith}
+use Rattle.network.proofs.Stands.{in-row}
 use Rattle.network.proofs.PlaceFaults.{bond-free, bond-answered, bond-unanswered}
 use borrow.Author.Needs.{needs}
 use Rattle.validator.proofs.faults.bond_fault.Statement.{statement}
@@ -18,16 +19,21 @@ cast-stands-in : tie.Need-cast-stands-in
 cast-stands-in c = omega (arith, c .before .shared-slice-known2 .given (c .before .before .before .args .i))
 
 stands-in-requires : tie.Need-stands-in-requires
-unfolding WordsBelow
-stands-in-requires c κs =
-    let start = c .before .before .before in
-    omega (arith, start .pre .2 (start .args .i) (start .pre .0) (c .if1 .left))
+stands-in-requires c κs = search needs
 
 returns-2 : tie.Need-returns-2
-returns-2 c = search (bond-answered)
+unfolding WordsBelow
+returns-2 c =
+    let start = c .before .before .before .before .before in
+    let room = start .pre .2 (start .args .i) (start .pre .0) (c .before .before .if1 .left) in
+    bond-answered _ _ (c .before .before .if1 .left) _ (in-row _ _ _ (omega (arith, room)) _ (c .before .stands-in .ensures)) (c .if2 .taken)
 
 returns-3 : tie.Need-returns-3
-returns-3 c = search (bond-unanswered)
+unfolding WordsBelow
+returns-3 c =
+    let start = c .before .before .before .before .before in
+    let room = start .pre .2 (start .args .i) (start .pre .0) (c .before .before .if1 .left) in
+    bond-unanswered _ _ (c .before .before .if1 .left) _ (in-row _ _ _ (omega (arith, room)) _ (c .before .stands-in .ensures)) (c .if2 .left)
 
 pub bond-fault-spec : {M : Type 1} → statement M
 bond-fault-spec =

@@ -2,11 +2,11 @@ use Prim.Native.Nat.{_≤_, _-_, _*_, _+_}
 use mathlib.Core.Path.{_≡_, refl}
 use native.Mathlib.Omega.{arith}
 use borrow.Author.Needs.{needs}
 use Rattle.network.specs.Maxima.{places}
 use Rattle.network.specs.Verdict.{stands}
-use Rattle.validator.proofs.Scans.{stands-here, stands-next, stands-none}
-use Rattle.validator.proofs.faults.stands_in.Statement.{statement}
-use Rattle.validator.proofs.faults.stands_in.Tie as tie
+use Rattle.network.proofs.Stands.{stands-here, stands-next, stands-none}
+use Rattle.network.proofs.row_has.Statement.{statement}
+use Rattle.network.proofs.row_has.Tie as tie
 
 abbrev Inv-loop : tie.InvT-loop
 Inv-loop table x y p₀ p = (p ≤ places) × (stands table x y places 0 ≡ stands table x y (places - p) p)
@@ -47,8 +47,8 @@ loop-again c = (omega arith, search (stands-next, needs))
 returns-2 : tie.Need-returns-2 Inv-loop μ-loop
 returns-2 c = search (stands-none, needs)
 
-pub stands-in-spec : {M : Type 1} → statement M
-stands-in-spec =
+pub row-has-spec : {M : Type 1} → statement M
+row-has-spec =
     tie.close
     (tie.spec
     Inv-loop
