@@ -1,4 +1,6 @@
 // The averages of a census: each one division of whole numbers that are cast without loss.
+#![tactic(auto)]
+
 ghost use Rattle.std.specs.Prelude.{◌≡◌};
 ghost use Rattle.averages.specs.Averages.{quotient, mean_of, mean_values, averages_of, no_averages, AveragesTold};
 

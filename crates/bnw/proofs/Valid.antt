@@ -104,7 +104,7 @@ module _ (n : ℕ) (bond : ℕ → Bond) (m : ℕ) (right : (k : ℕ) → k < m 
   rises zero h = tt
   rises (suc k) h =
       subst (Ascending EarlierBond) (sym (rw add-one at (map_more bond k)))
-      (append_ascending EarlierBond (bonds_below bond k) (bond k ∷ []) (rises k (omega arith)) (λ b q. absurd (Memᴰ.not_nil q), tt)
+      (append_ascending EarlierBond (bonds_below bond k) (bond k ∷ []) (rises k (omega arith)) (λ b q. absurd (Memᴰ.not-nil q), tt)
       (λ a b p q. let r = numbered bond k p in
       subst (λ (c : Bond). EarlierBond c b) (sym r.2) (subst (λ (c : Bond). EarlierBond (bond r.0) c) (sym (Memᴰ.eq_of_singleton q)) (chain r.0 k r.1 (omega arith)))))
 

@@ -2,6 +2,8 @@
 //
 // A file is the mark "BNW", the version, the counts of atoms and of bonds, then the bonds in ascending order. What it means is in
 // specs/, that it returns in proofs/; the crates bnw_reader and bnw_writer have the rest of the code.
+#![tactic(auto)]
+
 ghost use Rattle.std.specs.Prelude.{◌≡◌};
 ghost use Rattle.bnw.specs.Reading.{of_bytes, signed};
 

@@ -1,4 +1,6 @@
 // The reader of network files.
+#![tactic(auto)]
+
 mod fields;
 mod file_bonds;
 mod head;

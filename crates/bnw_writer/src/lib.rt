@@ -1,4 +1,6 @@
 // The writer of network files.
+#![tactic(auto)]
+
 mod bytes;
 mod fields;
 

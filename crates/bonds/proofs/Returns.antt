@@ -26,18 +26,18 @@ use Rattle.bonds.proofs.Tables.{partners_of, partners_has, partners_ascend, join
 -- a bond at word i
 module _ (t : List ℕ) (i : ℕ) (b : Bond) (m : b ∈ bond_at t i) where
   stands_at : b ≡ bond (i / places) (get_or t i 0)
-  stands_at = Memᴰ.eq_of_singleton (subst (λ (bs : List Bond). b ∈ bs) (bond_is t i (λ e. Memᴰ.not_nil (subst (λ (bs : List Bond). b ∈ bs) e m))) m)
+  stands_at = Memᴰ.eq_of_singleton (subst (λ (bs : List Bond). b ∈ bs) (bond_is t i (λ e. Memᴰ.not-nil (subst (λ (bs : List Bond). b ∈ bs) e m))) m)
 
   not_free : get_or t i 0 ≡ free → ⊥
   unfolding bond_at
-  not_free h = Memᴰ.not_nil (rw (eq-eqb (get_or t i 0) free h) at m)
+  not_free h = Memᴰ.not-nil (rw (eq-eqb (get_or t i 0) free h) at m)
 
   first_below : b.first < b.second
   first_below = go (dec_lt (i / places) (get_or t i 0))
     where
       go : Dec (i / places < get_or t i 0) → b.first < b.second
       go (yes l) = rw (stands_at) l
-      go (no l) = absurd (Memᴰ.not_nil (subst (λ (bs : List Bond). b ∈ bs) (bond_below t i not_free (omega arith)) m))
+      go (no l) = absurd (Memᴰ.not-nil (subst (λ (bs : List Bond). b ∈ bs) (bond_below t i not_free (omega arith)) m))
 
 -- the bonds of a table, by their atoms
 pub bonds_bonded : (t : List ℕ) (b : Bond) → b ∈ bonds_of t → (b.first < b.second) × Bonded t b.first b.second
@@ -86,8 +86,8 @@ module _ (n : ℕ) (t : List ℕ) (N : IsNetwork n t) where
           alone : (bs : List Bond) → bond_at t i ≡ bs → Ascending EarlierBond bs
           alone [] e = tt
           alone (b ∷ bs) e =
-              let z : b ∷ bs ≡ bond (i / places) (get_or t i 0) ∷ [] = sym e ∙ bond_is t i (λ h. Memᴰ.not_nil (subst (λ (cs : List Bond). b ∈ cs) (sym e ∙ h) (Memᴰ.head refl))) in
-              subst (Ascending EarlierBond) (sym z) (λ c k. absurd (Memᴰ.not_nil k), tt)
+              let z : b ∷ bs ≡ bond (i / places) (get_or t i 0) ∷ [] = sym e ∙ bond_is t i (λ h. Memᴰ.not-nil (subst (λ (cs : List Bond). b ∈ cs) (sym e ∙ h) (Memᴰ.head refl))) in
+              subst (Ascending EarlierBond) (sym z) (λ c k. absurd (Memᴰ.not-nil k), tt)
 
       across : (i j : ℕ) → i < j → j < length t → (get_or t j 0 ≡ free → ⊥) → EarlierBond (bond (i / places) (get_or t i 0)) (bond (j / places) (get_or t j 0))
       across i j l h f = go (ℕ_discrete (i / places) (j / places))

@@ -22,7 +22,7 @@ partner_of x y b m = go (ℕ_discrete b.first x) (ℕ_discrete b.second x)
     go : Dec (b.first ≡ x) → Dec (b.second ≡ x) → Joins b x y
     go (yes e) _ = inl (e, sym (Memᴰ.eq_of_singleton (subst (λ (xs : List ℕ). y ∈ xs) (partner_first x b _ refl e) m)))
     go (no e) (yes d) = inr (d, sym (Memᴰ.eq_of_singleton (subst (λ (xs : List ℕ). y ∈ xs) (partner_second x b _ refl e _ refl d) m)))
-    go (no e) (no d) = absurd (Memᴰ.not_nil (subst (λ (xs : List ℕ). y ∈ xs) (partner_none x b _ refl e _ refl d) m))
+    go (no e) (no d) = absurd (Memᴰ.not-nil (subst (λ (xs : List ℕ). y ∈ xs) (partner_none x b _ refl e _ refl d) m))
 
 pub partner_has : (x y : ℕ) (b : Bond) → Joins b x y → y ∈ partner x b
 partner_has x y b (inl e) = subst (λ (xs : List ℕ). y ∈ xs) (sym (partner_first x b _ refl e.0)) (Memᴰ.head (sym e.1))
@@ -61,7 +61,7 @@ module _ (bonds : List Bond) (ordered : (b : Bond) → b ∈ bonds → b.first <
     where
       alone : (xs : List ℕ) → length xs ≤ 1 → Ascending ◌<◌ xs
       alone [] l = tt
-      alone (a ∷ []) l = (λ b m. absurd (Memᴰ.not_nil m), tt)
+      alone (a ∷ []) l = (λ b m. absurd (Memᴰ.not-nil m), tt)
       alone (a ∷ b ∷ xs) l = absurd (omega arith)
 
       own : (b : Bond) → Ascending ◌<◌ (partner x b)

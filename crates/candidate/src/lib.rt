@@ -1,4 +1,6 @@
 // The test of one candidate ring.
+#![tactic(auto)]
+
 mod pairs;
 mod writing;
 

@@ -1,4 +1,6 @@
 // The checks of a candidate ring, up to refusal 17.
+#![tactic(auto)]
+
 ghost use Rattle.std.specs.Prelude.{◌≡◌, ◌+◌, ◌*◌, ◌≤◌, ◌<◌, length};
 ghost use Rattle.network.specs.Maxima.{atoms_most, places};
 ghost use Rattle.network.specs.Network.{IsNetwork};

@@ -1,4 +1,6 @@
 // What counting and listing answer, and the checks that come before the search.
+#![tactic(auto)]
+
 pub mod checks;
 
 ghost use Rattle.std.specs.Prelude.{◌≡◌};

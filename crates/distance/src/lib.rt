@@ -1,4 +1,6 @@
 // The table of distances between all atoms of a network: a byte for each two atoms, row by row.
+#![tactic(auto)]
+
 mod rows;
 
 ghost use Rattle.std.specs.Prelude.{◌≡◌};

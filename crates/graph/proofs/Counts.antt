@@ -54,7 +54,7 @@ module _ {A : Type 0} (mark : A → ℕ) where
 
   -- no mark is above the sum
   in_sum : (xs : List A) (x : A) → x ∈ xs → mark x ≤ sum_of mark xs
-  in_sum [] x m = absurd (Memᴰ.not_nil m)
+  in_sum [] x m = absurd (Memᴰ.not-nil m)
   in_sum (y ∷ xs) x m = go (in_sum xs x) (Memᴰ.cases_cons m)
     where
       go : (x ∈ xs → mark x ≤ sum_of mark xs) → (x ≡ y) ⊎ (x ∈ xs) → mark x ≤ mark y + sum_of mark xs

@@ -25,6 +25,7 @@ module _ {A : Type 0} (eq : A → A → Bool) (eq_of : (a b : A) → T (eq a b) 
       go (inr m) ih = Memᴰ.tail (ih m)
 
   pub elem_has : (y : A) {xs : List A} → y ∈ xs → T (elem eq y xs)
+  elem_has y {xs = []} m = elim m [ ]
   elem_has y {xs = x ∷ xs} (Memᴰ.head e) = true_or_left (eq y x) (elem eq y xs) (subst (λ z. T (eq y z)) e (eq_self y))
   elem_has y {xs = x ∷ xs} (Memᴰ.tail m) = true_or_right (eq y x) (elem eq y xs) (elem_has y m)
 
@@ -52,13 +53,14 @@ module _ {A : Type 0} (eq : A → A → Bool) (eq_of : (a b : A) → T (eq a b) 
           sub (inr n) = Memᴰ.tail (ih n)
       go false m ih = Memᴰ.tail (ih m)
 
-  once_has : {xs : List A} {a : A} → a ∈ xs → a ∈ once eq xs
-  once_has {xs = x ∷ xs} {a} (Memᴰ.head e) = go (elem eq x (once eq xs)) (λ t. Memᴰ.cast e (elem_of x (once eq xs) t))
+  once_has : {a : A} {xs : List A} → a ∈ xs → a ∈ once eq xs
+  once_has {xs = []} m = elim m [ ]
+  once_has {a} {xs = x ∷ xs} (Memᴰ.head e) = go (elem eq x (once eq xs)) (λ t. Memᴰ.cast e (elem_of x (once eq xs) t))
     where
       go : (b : Bool) → (T b → a ∈ once eq xs) → a ∈ cons_if (not b) x (once eq xs)
       go true h = h tt
       go false h = Memᴰ.head e
-  once_has {xs = x ∷ xs} {a} (Memᴰ.tail m) = go (not (elem eq x (once eq xs))) (once_has m)
+  once_has {a} {xs = x ∷ xs} (Memᴰ.tail m) = go (not (elem eq x (once eq xs))) (once_has m)
     where
       go : (b : Bool) → a ∈ once eq xs → a ∈ cons_if b x (once eq xs)
       go true h = Memᴰ.tail h
@@ -81,7 +83,7 @@ module _ {A : Type 0} (eq : A → A → Bool) (eq_of : (a b : A) → T (eq a b) 
       where
         one : (z : A) → (z ≡ x) ⊎ (z ∈ []) → Walk (BondedBy adj) n z y → Walk (BondedBy adj) n x y
         one z (inl e) v = subst (λ t. Walk (BondedBy adj) n t y) e v
-        one z (inr k) v = absurd (Memᴰ.not_nil k)
+        one z (inr k) v = absurd (Memᴰ.not-nil k)
 
     -- y is first met m levels on
     abbrev First : ℕ → List A → A → Type 0

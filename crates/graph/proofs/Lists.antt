@@ -27,26 +27,27 @@ T_and false b h k = absurd h
 
 module _ {A B : Type 0} where
   pub gather_of : (f : A → List B) (xs : List A) {b : B} → b ∈ gather f xs → (a : A) × (a ∈ xs) × (b ∈ f a)
-  gather_of f [] h = absurd (Memᴰ.not_nil h)
+  gather_of f [] h = absurd (Memᴰ.not-nil h)
   gather_of f (x ∷ xs) {b} h = go (gather_of f xs) (Memᴰ.append_cases (f x) h)
     where
       go : (b ∈ gather f xs → (a : A) × (a ∈ xs) × (b ∈ f a)) → (b ∈ f x) ⊎ (b ∈ gather f xs) → (a : A) × (a ∈ x ∷ xs) × (b ∈ f a)
       go ih (inl m) = (x, Memᴰ.head refl, m)
       go ih (inr m) = let r = ih m in (r.0, Memᴰ.tail r.1, r.2)
 
-  pub gather_has : (f : A → List B) {xs : List A} {a : A} {b : B} → a ∈ xs → b ∈ f a → b ∈ gather f xs
+  pub gather_has : (f : A → List B) {a : A} {xs : List A} {b : B} → a ∈ xs → b ∈ f a → b ∈ gather f xs
+  gather_has f {xs = []} m k = elim m [ ]
   gather_has f {xs = x ∷ xs} {b = b} (Memᴰ.head e) m = Memᴰ.append_left (gather f xs) (subst (λ a. b ∈ f a) e m)
   gather_has f {xs = x ∷ xs} (Memᴰ.tail h) m = Memᴰ.append_right (f x) (gather_has f h m)
 
   pub map_of : (f : A → B) (xs : List A) {b : B} → b ∈ map f xs → (a : A) × (a ∈ xs) × (b ≡ f a)
-  map_of f [] h = absurd (Memᴰ.not_nil h)
+  map_of f [] h = absurd (Memᴰ.not-nil h)
   map_of f (x ∷ xs) {b} h = go (map_of f xs) (Memᴰ.cases_cons h)
     where
       go : (b ∈ map f xs → (a : A) × (a ∈ xs) × (b ≡ f a)) → (b ≡ f x) ⊎ (b ∈ map f xs) → (a : A) × (a ∈ x ∷ xs) × (b ≡ f a)
       go ih (inl e) = (x, Memᴰ.head refl, e)
       go ih (inr m) = let r = ih m in (r.0, Memᴰ.tail r.1, r.2)
 
-  pub map_has : (f : A → B) {xs : List A} {a : A} → a ∈ xs → f a ∈ map f xs
+  pub map_has : (f : A → B) {a : A} {xs : List A} → a ∈ xs → f a ∈ map f xs
   map_has f (Memᴰ.head e) = Memᴰ.head (ap f e)
   map_has f (Memᴰ.tail m) = Memᴰ.tail (map_has f m)
 
@@ -68,14 +69,15 @@ module _ {A : Type 0} where
   cons_if_head false x xs h e = absurd h
 
   pub keep_of : (p : A → Bool) (xs : List A) {a : A} → a ∈ keep p xs → (a ∈ xs) × T (p a)
-  keep_of p [] h = absurd (Memᴰ.not_nil h)
+  keep_of p [] h = absurd (Memᴰ.not-nil h)
   keep_of p (x ∷ xs) {a} h = go (keep_of p xs) (cons_if_of (p x) x (keep p xs) h)
     where
       go : (a ∈ keep p xs → (a ∈ xs) × T (p a)) → (T (p x) × (a ≡ x)) ⊎ (a ∈ keep p xs) → (a ∈ x ∷ xs) × T (p a)
       go ih (inl t) = (Memᴰ.head t.1, subst (λ y. T (p y)) (sym t.1) t.0)
       go ih (inr m) = let r = ih m in (Memᴰ.tail r.0, r.1)
 
-  pub keep_has : (p : A → Bool) {xs : List A} {a : A} → a ∈ xs → T (p a) → a ∈ keep p xs
+  pub keep_has : (p : A → Bool) {a : A} {xs : List A} → a ∈ xs → T (p a) → a ∈ keep p xs
+  keep_has p {xs = []} m t = elim m [ ]
   keep_has p {xs = x ∷ xs} (Memᴰ.head e) t = cons_if_head (p x) x (keep p xs) (subst (λ y. T (p y)) e t) e
   keep_has p {xs = x ∷ xs} (Memᴰ.tail m) t = cons_if_tail (p x) x (keep_has p m t)
 
@@ -92,7 +94,7 @@ true_or_right true b h = tt
 true_or_right false b h = h
 
 pub every_of : {A : Type 0} (p : A → Bool) (xs : List A) → T (every p xs) → (a : A) → a ∈ xs → T (p a)
-every_of p [] h a m = absurd (Memᴰ.not_nil m)
+every_of p [] h a m = absurd (Memᴰ.not-nil m)
 every_of p (x ∷ xs) h a m = go (Memᴰ.cases_cons m) (every_of p xs (and_T (p x) (every p xs) h).1 a)
   where
     go : (a ≡ x) ⊎ (a ∈ xs) → (a ∈ xs → T (p a)) → T (p a)
@@ -159,8 +161,8 @@ module _ {A : Type 0} (R : A → A → Type 0) where
 
     pub ascending_unique : (xs ys : List A) → Ascending R xs → Ascending R ys → ((a : A) → a ∈ xs → a ∈ ys) → ((a : A) → a ∈ ys → a ∈ xs) → xs ≡ ys
     ascending_unique [] [] f g h k = refl
-    ascending_unique [] (y ∷ ys) f g h k = absurd (Memᴰ.not_nil (k y (Memᴰ.head refl)))
-    ascending_unique (x ∷ xs) [] f g h k = absurd (Memᴰ.not_nil (h x (Memᴰ.head refl)))
+    ascending_unique [] (y ∷ ys) f g h k = absurd (Memᴰ.not-nil (k y (Memᴰ.head refl)))
+    ascending_unique (x ∷ xs) [] f g h k = absurd (Memᴰ.not-nil (h x (Memᴰ.head refl)))
     ascending_unique (x ∷ xs) (y ∷ ys) f g h k =
         let e = first x y xs ys f.0 g.0 (Memᴰ.cases_cons (h x (Memᴰ.head refl))) (Memᴰ.cases_cons (k y (Memᴰ.head refl))) in
         ap₂ ◌∷◌ e (ascending_unique xs ys f.1 g.1 (rest x y xs ys f.0 e h) (rest y x ys xs g.0 (sym e) k))
@@ -174,7 +176,7 @@ gather_ascending R S f (x ∷ xs) h own across =
     (λ a b m n. let r = gather_of f xs n in across x r.0 a b (h.0 r.0 r.1) m r.2)
 
 pub count_of : (n a : ℕ) {k : ℕ} → k ∈ numbers_from n a → (a ≤ k) × (k < a + n)
-count_of zero a h = absurd (Memᴰ.not_nil h)
+count_of zero a h = absurd (Memᴰ.not-nil h)
 count_of (suc n) a {k} h = go (count_of n (suc a)) (Memᴰ.cases_cons h)
   where
     go : (k ∈ numbers_from n (suc a) → (suc a ≤ k) × (k < suc a + n)) → (k ≡ a) ⊎ (k ∈ numbers_from n (suc a)) → (a ≤ k) × (k < a + suc n)

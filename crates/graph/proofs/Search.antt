@@ -29,7 +29,7 @@ module _ {Vertex : Type 0} (next : List Vertex → List Vertex) where
     where
       go : (s ≡ []) ⊎ (s ∈ []) → (length s ≡ zero) × Fits p s
       go (inl e) = subst (λ t. (length t ≡ zero) × Fits p t) (sym e) (refl, tt)
-      go (inr n) = absurd (Memᴰ.not_nil n)
+      go (inr n) = absurd (Memᴰ.not-nil n)
   grow_of (suc m) p s h =
       let g = gather_of (λ v. map (λ t. v ∷ t) (grow next m (p ++ (v ∷ [])))) (next p) h in
       let t = map_of (λ u. g.0 ∷ u) (grow next m (p ++ (g.0 ∷ []))) g.2 in
@@ -62,7 +62,7 @@ module _ {Vertex : Type 0} (next : List Vertex → List Vertex) where
         (λ t m. let k = map_of (λ u. v ∷ u) ss m in subst (λ u. Lex R (v ∷ s) u) (sym k.2) (inr (refl, h.0 k.0 k.1)), map_ascending v ss h.1)
 
     pub grow_ascending : (m : ℕ) (p : List Vertex) → Ascending (Lex R) (grow next m p)
-    grow_ascending zero p = (λ b n. absurd (Memᴰ.not_nil n), tt)
+    grow_ascending zero p = (λ b n. absurd (Memᴰ.not-nil n), tt)
     grow_ascending (suc m) p =
         gather_ascending R (Lex R) (λ v. map (λ s. v ∷ s) (grow next m (p ++ (v ∷ [])))) (next p) (up p)
         (λ v. map_ascending v (grow next m (p ++ (v ∷ []))) (grow_ascending m (p ++ (v ∷ []))))

@@ -59,6 +59,7 @@ unfolding is_digit
 is_digit_lem b h k = rw (le-leb 48 b h, le-leb b 57 k) refl
 
 all_of : (bytes : List ℕ) → all_digits bytes ≡ true → (b : ℕ) → b ∈ bytes → (48 ≤ b) × (b ≤ 57)
+all_of [] e b m = elim m [ ]
 all_of (a ∷ bytes) e b (Memᴰ.head d) = let t = both (is_digit a) (all_digits bytes) e in subst (λ (c : ℕ). (48 ≤ c) × (c ≤ 57)) (sym d) (digit_of a t.0)
 all_of (a ∷ bytes) e b (Memᴰ.tail m) = all_of bytes (both (is_digit a) (all_digits bytes) e).1 b m
 

@@ -166,7 +166,7 @@ module _ (n : ℕ) (few : n ≤ atoms_most) (line : ℕ → List ℕ) (m : ℕ) 
           (inserted_ascends y (risen_on [] (bonded k x)) ih (λ i. old (risen_of y [] (bonded k x) i)))
         where
           old : (y ∈ []) ⊎ (y ∈ bonded k x) → ⊥
-          old (inl i) = Memᴰ.not_nil i
+          old (inl i) = Memᴰ.not-nil i
           old (inr i) = new i
 
       go : Share k x → Ascending ◌<◌ (risen_on [] (bonded k x)) → Ascending ◌<◌ (risen_on [] (bonded (suc k) x))

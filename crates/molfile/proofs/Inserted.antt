@@ -34,7 +34,7 @@ greater_under a b m h k = elim (dec_lt b a) [ yes l ↦ rw (greater_above a b l)
 pub inserted_of : (y z : ℕ) (ws : List ℕ) → z ∈ inserted y ws → (z ≡ y) ⊎ (z ∈ ws)
 unfolding inserted
 inserted_of y z [] (Memᴰ.head e) = inl e
-inserted_of y z [] (Memᴰ.tail m) = absurd (Memᴰ.not_nil m)
+inserted_of y z [] (Memᴰ.tail m) = absurd (Memᴰ.not-nil m)
 inserted_of y z (w ∷ ws) m = go (dec_lt y w) (λ u. inserted_of u z ws) m
   where
     later : (u : ℕ) → (z ≡ u) ⊎ (z ∈ ws) → (u ≡ y) ⊎ (u ≡ w) → (z ≡ y) ⊎ (z ∈ w ∷ ws)
@@ -51,7 +51,7 @@ inserted_of y z (w ∷ ws) m = go (dec_lt y w) (λ u. inserted_of u z ws) m
 pub inserted_has : (y z : ℕ) (ws : List ℕ) → (z ≡ y) ⊎ (z ∈ ws) → z ∈ inserted y ws
 unfolding inserted
 inserted_has y z [] (inl e) = Memᴰ.head e
-inserted_has y z [] (inr m) = absurd (Memᴰ.not_nil m)
+inserted_has y z [] (inr m) = absurd (Memᴰ.not-nil m)
 inserted_has y z (w ∷ ws) h = go (dec_lt y w) (λ u. inserted_has u z ws) h
   where
     go : Dec (y < w) → ((u : ℕ) → (z ≡ u) ⊎ (z ∈ ws) → z ∈ inserted u ws) → (z ≡ y) ⊎ (z ∈ w ∷ ws) → z ∈ lesser w y ∷ inserted (greater w y) ws
@@ -70,7 +70,7 @@ inserted_length y (w ∷ ws) = ap suc (inserted_length (greater w y) ws)
 -- an ascending list stays one
 pub inserted_ascends : (y : ℕ) (ws : List ℕ) → Ascending ◌<◌ ws → (y ∈ ws → ⊥) → Ascending ◌<◌ (inserted y ws)
 unfolding inserted
-inserted_ascends y [] h new = (λ b m. absurd (Memᴰ.not_nil m), tt)
+inserted_ascends y [] h new = (λ b m. absurd (Memᴰ.not-nil m), tt)
 inserted_ascends y (w ∷ ws) h new = go (dec_lt y w) (λ u. inserted_ascends u ws h.1)
   where
     own : w ∈ ws → ⊥
@@ -113,7 +113,7 @@ risen_of z ws (y ∷ ys) m = go (risen_of z (inserted y ws) ys m)
 
 pub risen_has : (z : ℕ) (ws ys : List ℕ) → (z ∈ ws) ⊎ (z ∈ ys) → z ∈ risen_on ws ys
 risen_has z ws [] (inl m) = m
-risen_has z ws [] (inr m) = absurd (Memᴰ.not_nil m)
+risen_has z ws [] (inr m) = absurd (Memᴰ.not-nil m)
 risen_has z ws (y ∷ ys) (inl m) = risen_has z (inserted y ws) ys (inl (inserted_has y z ws (inr m)))
 risen_has z ws (y ∷ ys) (inr (Memᴰ.head e)) = risen_has z (inserted y ws) ys (inl (inserted_has y z ws (inl e)))
 risen_has z ws (y ∷ ys) (inr (Memᴰ.tail m)) = risen_has z (inserted y ws) ys (inr m)
@@ -139,7 +139,7 @@ held_more y ys l h f =
     let e : places - length ys ≡ suc (places - length ys - 1) = omega arith in
     let d : places - length ys - 1 ≡ places - length (ys ++ (y ∷ [])) = omega (arith, length-append ys (y ∷ [])) in
     ap (λ (k : ℕ). settle y (risen_on [] ys ++ replicate k free)) e
-    ∙ settle_held y (risen_on [] ys) (places - length ys - 1) h (λ w m. elim (risen_of w [] ys m) [ inl i ↦ absurd (Memᴰ.not_nil i) | inr i ↦ f w i ])
+    ∙ settle_held y (risen_on [] ys) (places - length ys - 1) h (λ w m. elim (risen_of w [] ys m) [ inl i ↦ absurd (Memᴰ.not-nil i) | inr i ↦ f w i ])
     ∙ ap₂ (λ (ws : List ℕ) (k : ℕ). ws ++ replicate k free) (sym (risen_more [] ys y)) d
 
 -- words that are put in their order where they stand

@@ -61,6 +61,7 @@ has_of y (z ∷ ys) e = go (ℕ_discrete y z) (has_of y ys)
     go (no d) ih = Memᴰ.tail (ih (rw (ne_eqb y z d) at e))
 
 pub of_has : (y : ℕ) (ys : List ℕ) → y ∈ ys → elem eqb y ys ≡ true
+of_has y [] m = elim m [ ]
 of_has y (z ∷ ys) (Memᴰ.head d) = rw (eq-eqb y z d) refl
 of_has y (z ∷ ys) (Memᴰ.tail m) = go (eqb y z) (of_has y ys m)
   where
@@ -150,7 +151,7 @@ module _ (ys : List ℕ) (few : length ys ≤ places) where
   held_of y p h e f = go (dec_lt p (length ys))
     where
       in_list : (y ∈ []) ⊎ (y ∈ ys) → y ∈ ys
-      in_list (inl m) = absurd (Memᴰ.not_nil m)
+      in_list (inl m) = absurd (Memᴰ.not-nil m)
       in_list (inr m) = m
 
       go : Dec (p < length ys) → y ∈ ys
@@ -202,7 +203,7 @@ module _ (n : ℕ) (line : ℕ → List ℕ) (k : ℕ) (rows : List ℕ) (few : 
           rw (ne_eqb (word rows x (places - 1)) free (λ f. lower (risen_of _ [] (bonded x) m) (sym e ∙ f)), le-leb places (length (bonded x)) (omega arith)) refl
         where
           lower : {u : ℕ} → (u ∈ []) ⊎ (u ∈ bonded x) → u ≡ free → ⊥
-          lower (inl m) f = Memᴰ.not_nil m
+          lower (inl m) f = Memᴰ.not-nil m
           lower {u} (inr m) f = omega (arith, below u m)
 
   pub judged_same : ((x y : ℕ) → y ∈ bonded x → y < free) → rows_fault n (line k) rows ≡ pair_fault n line k

@@ -47,7 +47,7 @@ module _ (n : ℕ) (C : Counted n) (line : ℕ → List ℕ) (m : ℕ) (right : 
   word_held x p l k h = word_is x p l k ∙ held_here (bonded x) (few x) p h
 
   in_list : (x y : ℕ) → (y ∈ []) ⊎ (y ∈ bonded x) → y ∈ bonded x
-  in_list x y (inl i) = absurd (Memᴰ.not_nil i)
+  in_list x y (inl i) = absurd (Memᴰ.not-nil i)
   in_list x y (inr i) = i
 
   risen_at : (x p : ℕ) → p < length (bonded x) → get_or (risen_on [] (bonded x)) p 0 ∈ bonded x

@@ -31,7 +31,7 @@ use Rattle.molfile.proofs.Holding.{eight, bond_of, bond_has, ascends}
 -- an ascending list is no longer than one that has all its members
 no_longer : (ys : List ℕ) → Ascending ◌<◌ ys → (xs : List ℕ) → Ascending ◌<◌ xs → ((z : ℕ) → z ∈ xs → z ∈ ys) → length xs ≤ length ys
 no_longer [] rise [] up inside = omega arith
-no_longer [] rise (x ∷ xs) up inside = absurd (Memᴰ.not_nil (inside x (Memᴰ.head refl)))
+no_longer [] rise (x ∷ xs) up inside = absurd (Memᴰ.not-nil (inside x (Memᴰ.head refl)))
 no_longer (y ∷ ys) rise xs up inside = go xs up inside (no_longer ys rise.1)
   where
     above : (z : ℕ) → y < z → z ∈ y ∷ ys → z ∈ ys
@@ -113,7 +113,7 @@ module _ (n : ℕ) (few : n ≤ atoms_most) (line other : ℕ → List ℕ) (m :
         )
       where
         member : (z : ℕ) → z ∈ risen_on [] (bonded x) → z ∈ bonded x
-        member z i = elim (risen_of z [] (bonded x) i) [ inl j ↦ absurd (Memᴰ.not_nil j) | inr j ↦ j ]
+        member z i = elim (risen_of z [] (bonded x) i) [ inl j ↦ absurd (Memᴰ.not-nil j) | inr j ↦ j ]
 
         held : (z : ℕ) → (z ≡ y) ⊎ (z ∈ risen_on [] (bonded x)) → z ∈ all x
         held z (inl e) = subst (λ (u : ℕ). u ∈ all x) (sym e) (in_all k x y l p)

@@ -31,12 +31,12 @@ module _ (rest : List ℕ) where
     where
       go : Dec (b ≡ line_feed) → ends_here b rest ≡ ends_here b []
       go (yes e) = rw (eq-eqb b line_feed e)
-      go (no e) = absurd (Memᴰ.not_nil (feed_later b [] i e))
+      go (no e) = absurd (Memᴰ.not-nil (feed_later b [] i e))
   same_end b (c ∷ bytes) i = refl
 
   line_front : (front : List ℕ) → line_feed ∈ front → line_of (front ++ rest) ≡ line_of front
   unfolding line_of
-  line_front [] i = absurd (Memᴰ.not_nil i)
+  line_front [] i = absurd (Memᴰ.not-nil i)
   line_front (b ∷ bytes) i = go (ℕ_discrete b line_feed) (line_front bytes)
     where
       go : Dec (b ≡ line_feed) → (line_feed ∈ bytes → line_of (bytes ++ rest) ≡ line_of bytes) → line_of (b ∷ bytes ++ rest) ≡ line_of (b ∷ bytes)
@@ -45,7 +45,7 @@ module _ (rest : List ℕ) where
 
   past_front : (front : List ℕ) → line_feed ∈ front → past_line (front ++ rest) ≡ past_line front ++ rest
   unfolding past_line
-  past_front [] i = absurd (Memᴰ.not_nil i)
+  past_front [] i = absurd (Memᴰ.not-nil i)
   past_front (b ∷ bytes) i = go (ℕ_discrete b line_feed) (past_front bytes)
     where
       go : Dec (b ≡ line_feed) → (line_feed ∈ bytes → past_line (bytes ++ rest) ≡ past_line bytes ++ rest)
@@ -69,13 +69,13 @@ module _ (rest : List ℕ) where
 
     -- none of them is missing
     there : (bytes : List ℕ) → line_feed ∈ bytes → bytes ++ rest ≡ [] → ⊥
-    there [] i e = Memᴰ.not_nil i
+    there [] i e = Memᴰ.not-nil i
     there (b ∷ bytes) i e = omega (arith, ap length e)
 
     missing_front : (k : ℕ) → k < many → MissingLine (front ++ rest) k ↔ MissingLine front k
     missing_front k l = (
       λ m. absurd (there (from_line front k) (feed_from k l) (sym (from_front k l) ∙ m)),
-      λ m. absurd (Memᴰ.not_nil (subst (λ (bytes : List ℕ). line_feed ∈ bytes) m (feed_from k l))),
+      λ m. absurd (Memᴰ.not-nil (subst (λ (bytes : List ℕ). line_feed ∈ bytes) m (feed_from k l))),
     )
 
 same_front : (front rest : List ℕ) → WholeLines (lines_read front) front → SameLines front (front ++ rest)

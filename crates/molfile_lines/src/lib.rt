@@ -1,4 +1,6 @@
 // The lines of a file and their columns. A line is told by the byte at which it begins; where that is past the file's end there is none.
+#![tactic(auto)]
+
 pub mod columns;
 
 ghost use Rattle.std.specs.Prelude.{◌≡◌, ◌+◌, ◌<◌, length, get_or, drop};

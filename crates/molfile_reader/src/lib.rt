@@ -1,4 +1,6 @@
 // The reader of molfiles.
+#![tactic(auto)]
+
 mod counts;
 mod pairs;
 mod rows;

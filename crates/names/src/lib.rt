@@ -1,4 +1,6 @@
 // Refusal 18: the first name that is not below n, or was seen earlier.
+#![tactic(auto)]
+
 ghost use Rattle.std.specs.Prelude.{◌≡◌, ◌<◌, length};
 ghost use Rattle.network.specs.Verdict.{accepted};
 ghost use Rattle.names.specs.Names.{name, name_seen, bad_name, name_faults};

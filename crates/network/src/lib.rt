@@ -2,6 +2,8 @@
 // of its faults comes first, is in specs/; the crate validator has the code that looks for it.
 //
 // A bond table has a row of 8 places for each atom; a place holds a neighbour or is free.
+#![tactic(auto)]
+
 ghost use Rattle.std.specs.Prelude.{◌≡◌, ◌+◌, ◌*◌, ◌≤◌, length};
 ghost use Rattle.network.specs.Maxima.{atoms_most, places, free};
 ghost use Rattle.network.specs.Verdict.{accepted, refusal, atoms_or_none, sizes, stands, in_row};
@@ -115,5 +117,5 @@ fn row_has(table: &[u16], x: usize, y: usize) -> bool
 
 // The constants of the type are the numbers of the specifications.
 fn maxima_agree()
-    ensures* { do ⌜ ((← (⟦Network::ATOMS⟧).entry) ≡ atoms_most) × ((← (⟦Network::PLACES⟧).entry) ≡ places) × ((← (⟦Network::FREE⟧).entry) ≡ free) ⌝ }
+    ensures { (Network.ATOMS ≡ atoms_most) × (Network.PLACES ≡ places) × (Network.FREE ≡ free) }
 {}

@@ -1,4 +1,6 @@
 // Bytes and numbers, one after another, written into a lent byte buffer. Where a byte has no room, it and all that follow are left out.
+#![tactic(auto)]
+
 ghost use Rattle.std.specs.Prelude.{◌≡◌, ◌++◌};
 ghost use Rattle.page.specs.Page.{page, put, put_all};
 ghost use Rattle.page.specs.Numbers.{digits, number};

@@ -72,7 +72,7 @@ gather_intro f (suc n) j {r} lt m =
 
 pub gather_elim : (f : ℕ → List (List ℕ)) (n : ℕ) {r : List ℕ} → Memᴰ r (gather_below n f) → (j : ℕ) × (j < n) × Memᴰ r (f j)
 unfolding gather_below
-gather_elim f zero m = absurd (Memᴰ.not_nil m)
+gather_elim f zero m = absurd (Memᴰ.not-nil m)
 gather_elim f (suc n) {r} m =
     ⊎_elim
     (λ l. let g = gather_elim f n l in (g.0, lt_trans g.1 (lt-suc_self n), g.2))

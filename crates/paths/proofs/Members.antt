@@ -117,7 +117,7 @@ module _ (n : ℕ) (table dist : List ℕ) (k : ℕ) (may : Test) where
     where
       go : (b : Bool) → is_ring n dist k p ≡ b → Memᴰ r (cond b (p ∷ []) []) → ShortestShown n table dist k r
       go true q m' = rw (Memᴰ.eq_of_singleton m') (of_ring n table dist k p (omega arith) w q)
-      go false q m' = absurd (Memᴰ.not_nil m')
+      go false q m' = absurd (Memᴰ.not-nil m')
   sound_from (suc left) p r some w e m =
       let g = gather_elim _ places m in go (λ p' some' w' e' m'. sound_from left p' r some' w' e' m') g.0 g.1 (goes_on may n table p g.0) refl g.2
     where
@@ -129,7 +129,7 @@ module _ (n : ℕ) (table dist : List ℕ) (k : ℕ) (may : Test) where
           rec (p ++ (next_word table p j ∷ [])) (omega arith)
           (chain_more n table p (next_word table p j) j some w lt refl (ltb-true _ _ b.0) (ltb-true _ _ f.0))
           (omega arith) m'
-      go rec j lt false q m' = absurd (Memᴰ.not_nil m')
+      go rec j lt false q m' = absurd (Memᴰ.not-nil m')
 
 pub chain_one : (n : ℕ) (table : List ℕ) (a : ℕ) → a < n → ChainShown n table (a ∷ [])
 chain_one n table a lt = record { atoms = λ i l. only i l; bonded = λ i l. absurd (omega arith); least = λ i z l. absurd (omega arith) }

@@ -49,14 +49,14 @@ module _ (n : ℕ) (table dist : List ℕ) (k : ℕ) (may : Test) where
     where
       go : (b : Bool) → r ∈ (cond b (p ∷ []) []) → (s : List ℕ) × (r ≡ p ++ s)
       go true m' = ([], Memᴰ.eq_of_singleton m' ∙ sym (append-nil p))
-      go false m' = absurd (Memᴰ.not_nil m')
+      go false m' = absurd (Memᴰ.not-nil m')
   begins (suc left) p r m =
       let g = gather_elim _ places m in go (λ p' m'. begins left p' r m') g.0 (goes_on may n table p g.0) g.2
     where
       go : ((p' : List ℕ) → r ∈ (extend may n table dist k left p') → (s : List ℕ) × (r ≡ p' ++ s)) → (j : ℕ) (b : Bool)
           → r ∈ (cond b (extend may n table dist k left (p ++ (next_word table p j ∷ []))) []) → (s : List ℕ) × (r ≡ p ++ s)
       go rec j true m' = let q = rec _ m' in (next_word table p j ∷ q.0, q.1 ∙ append_snoc p (next_word table p j) q.0)
-      go rec j false m' = absurd (Memᴰ.not_nil m')
+      go rec j false m' = absurd (Memᴰ.not-nil m')
 
   branch_of : (left : ℕ) (p r : List ℕ) (j : ℕ) → r ∈ (cond (goes_on may n table p j) (extend may n table dist k left (p ++ (next_word table p j ∷ []))) [])
       → (s : List ℕ) × (r ≡ p ++ (next_word table p j ∷ s)) × (next_word table p j < n)
@@ -65,7 +65,7 @@ module _ (n : ℕ) (table dist : List ℕ) (k : ℕ) (may : Test) where
     where
       go : (b : Bool) → goes_on may n table p j ≡ b → r ∈ (cond b (extend may n table dist k left (p ++ (next_word table p j ∷ []))) []) → (s : List ℕ) × (r ≡ p ++ (next_word table p j ∷ s)) × (next_word table p j < n)
       go true e m' = let q = begins left _ r m' in (q.0, q.1 ∙ append_snoc p (next_word table p j) q.0, ltb-true _ _ ((and-eq-true_iff _ _).0 e).0)
-      go false e m' = absurd (Memᴰ.not_nil m')
+      go false e m' = absurd (Memᴰ.not-nil m')
 
   module _ (rows : Rows n table) where
     extend_asc : (left : ℕ) (p : List ℕ) → get_or p (length p - 1) 0 < n → Ascending (Lex ◌<◌) (extend may n table dist k left p)
@@ -73,7 +73,7 @@ module _ (n : ℕ) (table dist : List ℕ) (k : ℕ) (may : Test) where
     extend_asc zero p h = go (is_ring n dist k p)
       where
         go : (b : Bool) → Ascending (Lex ◌<◌) (cond b (p ∷ []) [])
-        go true = ((λ y m. absurd (Memᴰ.not_nil m)), tt)
+        go true = ((λ y m. absurd (Memᴰ.not-nil m)), tt)
         go false = tt
     extend_asc (suc left) p h =
         gather_asc (Lex ◌<◌) _ places

@@ -1,4 +1,6 @@
 // Renumbering: the table of the same network under new numbers of its atoms.
+#![tactic(auto)]
+
 mod rows;
 
 ghost use Rattle.renumber.specs.Outcome.{RenumberOutcome};

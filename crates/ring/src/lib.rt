@@ -1,4 +1,6 @@
 // The ring type with its maxima.
+#![tactic(auto)]
+
 mod writing;
 
 ghost use Rattle.std.specs.Prelude.{◌≡◌, ◌+◌, ◌-◌, ◌^◌, ◌<◌, ◌≤◌, min, length, replicate};
@@ -70,5 +72,5 @@ impl Ring {
 
 // The constants of the type are the numbers of the specifications.
 fn maxima_agree()
-    ensures* { do ⌜ ((← (⟦Ring::LEAST⟧).entry) ≡ ring_least) × ((← (⟦Ring::LENGTH⟧).entry) ≡ ring_most) × ((← (⟦Ring::DEFAULT⟧).entry) ≡ limit_default) × ((← (⟦Ring::ALLOWANCE⟧).entry) ≡ allowance_most) ⌝ }
+    ensures { (Ring.LEAST ≡ ring_least) × (Ring.LENGTH ≡ ring_most) × (Ring.DEFAULT ≡ limit_default) × (Ring.ALLOWANCE ≡ allowance_most) }
 {}

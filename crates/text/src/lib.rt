@@ -1,4 +1,6 @@
 // The lines that the listing program prints, written into a lent byte buffer.
+#![tactic(auto)]
+
 mod lines;
 
 ghost use Rattle.std.specs.Prelude.{◌≡◌};

@@ -1,4 +1,6 @@
 // The validator of bond tables.
+#![tactic(auto)]
+
 mod faults;
 
 ghost use Rattle.std.specs.Prelude.{◌≡◌};
