@@ -12,7 +12,7 @@ pub struct Averages {
 }
 
 // The mean length of the rings.
-#[derive(Drop)]
+#[derive(Clone, Copy)]
 pub enum Mean {
     Of(f64),
     NoRings,

@@ -10,7 +10,7 @@ use network::Answer;
 use ring::Ring;
 
 // Whether a candidate is a shortest-path ring; if not, the first pair of its places whose network distance is shorter.
-#[derive(Drop)]
+#[derive(Clone, Copy)]
 pub enum Shortest {
     Yes,
     No(usize, usize),

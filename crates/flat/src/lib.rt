@@ -1,4 +1,6 @@
 // The answers of the calls as C has them.
+#![tactic(auto)]
+
 ghost use Rattle.std.specs.Prelude.{◌≡◌, eqb};
 ghost use Rattle.candidate.specs.CandidateOutcome.{values};
 ghost use Rattle.averages.specs.Averages.{mean_values};

@@ -3,6 +3,7 @@ ghost use Rattle.std.specs.Prelude.{◌≤◌, length};
 
 use network::Network;
 use say::results;
+use std::io;
 
 // The words of the greatest table.
 const WORDS: usize = Network::ATOMS * Network::PLACES;
@@ -10,13 +11,14 @@ const WORDS: usize = Network::ATOMS * Network::PLACES;
 // The words shown: three rows and the word after them.
 const SHOWN: usize = 3 * Network::PLACES + 1;
 
-pub fn run(input: &[u8]) {
+pub fn run(rt: &impl Print, input: &[u8]) -> io::Result<()> {
     let mut at = 0;
     while at < input.len() {
         let end = find(input, at, b'~');
-        part(&input[at..end]);
+        part(rt, &input[at..end])?;
         at = end + 1;
     }
+    Ok(())
 }
 
 // Where a byte stands from `from` on, or the end.
@@ -35,13 +37,13 @@ fn find(bytes: &[u8], from: usize, byte: u8) -> usize
 }
 
 // The three parts of a case.
-fn part(text: &[u8]) {
+fn part(rt: &impl Print, text: &[u8]) -> io::Result<()> {
     let bar = find(text, 0, b'|');
     if text.len() - bar < 6 {
-        return;
+        return Ok(());
     }
     let room = number(text[bar + 1], text[bar + 2], text[bar + 3], text[bar + 4]);
-    read(&text[..bar], &text[bar + 6..], room);
+    read(rt, &text[..bar], &text[bar + 6..], room)
 }
 
 fn number(a: u8, b: u8, c: u8, d: u8) -> usize {
@@ -55,16 +57,16 @@ fn digit(letter: u8) -> usize
 }
 
 // Reads a file into the first words of the greatest table.
-fn read(name: &[u8], file: &[u8], room: usize) {
+fn read(rt: &impl Print, name: &[u8], file: &[u8], room: usize) -> io::Result<()> {
     if WORDS < room {
-        return;
+        return Ok(());
     }
     let mut table = [9u16; WORDS];
-    say::text(name);
-    say::named(b", words", room);
-    say::text(b", ");
-    results::reading(molfile_reader::read(file, &mut table[..room]));
-    say::text(b"its table");
-    say::words(&table, SHOWN);
-    say::line();
+    say::text(rt, name)?;
+    say::named(rt, b", words", room)?;
+    say::text(rt, b", ")?;
+    results::reading(rt, molfile_reader::read(file, &mut table[..room]))?;
+    say::text(rt, b"its table")?;
+    say::words(rt, &table, SHOWN)?;
+    say::line(rt)
 }

@@ -10,7 +10,7 @@ ghost use Rattle.notes.specs.Noting.{state, Fits, note, note_fit};
 use ring::Ring;
 
 // The rings found, the words that they take, and whether there were more than the allowance.
-#[derive(Drop)]
+#[derive(Clone, Copy)]
 pub struct Found {
     pub rings: u32,
     pub at: usize,

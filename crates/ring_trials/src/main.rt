@@ -1,5 +1,7 @@
 // Runs the cases of candidates, rings and renumberings, P1 to P11 among them, each refusal from both sides of its border: a printed
 // line for each answer.
+#![tactic(auto)]
+
 mod candidates;
 mod examples;
 mod models;
@@ -7,13 +9,14 @@ mod renumberings;
 mod searches;
 
 use network::Network;
+use std::io;
 
 // Each file's cases are given the table of Fig. 1.
-fn main() {
+fn main(rt: HostRuntime) -> io::Result<()> {
     let mut figure = [Network::FREE; 56];
     models::figure(&mut figure);
-    candidates::run(&figure);
-    searches::run(&figure);
-    examples::run(&figure);
-    renumberings::run(&figure);
+    candidates::run(&rt, &figure)?;
+    searches::run(&rt, &figure)?;
+    examples::run(&rt, &figure)?;
+    renumberings::run(&rt, &figure)
 }

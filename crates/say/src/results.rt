@@ -3,30 +3,27 @@ use averages::{Averages, Mean};
 use bonds::Reading;
 use census::Census;
 use ring::Ring;
+use std::io;
 
 // The answer, limit used, total, words, averages, and the counts above 0.
-pub fn census(census: Census) {
-    crate::answer(census.answer);
-    crate::named(b" limit", census.limit);
-    crate::named(b" total", census.total as usize);
-    crate::named(b" words", census.words);
-    averages(census.averages);
+pub fn census(rt: &impl Print, census: Census) -> io::Result<()> {
+    crate::answer(rt, census.answer)?;
+    crate::named(rt, b" limit", census.limit)?;
+    crate::named(rt, b" total", census.total as usize)?;
+    crate::named(rt, b" words", census.words)?;
+    averages(rt, census.averages)?;
     let by_length = census.counts;
-    counts(by_length);
-    crate::line();
+    counts(rt, by_length)?;
+    crate::line(rt)
 }
 
 // In thousandths.
-fn averages(a: Averages) {
-    crate::named(b" per atom", thousandths(a.per_atom));
+fn averages(rt: &impl Print, a: Averages) -> io::Result<()> {
+    crate::named(rt, b" per atom", thousandths(a.per_atom))?;
     let mean = a.mean;
     match mean {
-        Mean::Of(x) => {
-            crate::named(b" mean", thousandths(x));
-        }
-        Mean::NoRings => {
-            crate::text(b" no mean");
-        }
+        Mean::Of(x) => crate::named(rt, b" mean", thousandths(x)),
+        Mean::NoRings => crate::text(rt, b" no mean"),
     }
 }
 
@@ -40,47 +37,48 @@ fn thousandths(x: f64) -> usize {
     0
 }
 
-fn counts(by_length: [u32; Ring::LENGTH + 1]) {
+fn counts(rt: &impl Print, by_length: [u32; Ring::LENGTH + 1]) -> io::Result<()> {
     let mut k = 0;
     while k < Ring::LENGTH + 1 {
-        count(k, by_length[k]);
+        count(rt, k, by_length[k])?;
         k += 1;
     }
+    Ok(())
 }
 
-fn count(k: usize, rings: u32) {
+fn count(rt: &impl Print, k: usize, rings: u32) -> io::Result<()> {
     if rings == 0 {
-        return;
+        return Ok(());
     }
-    crate::named(b" of length", k);
-    crate::number(rings as usize);
+    crate::named(rt, b" of length", k)?;
+    crate::number(rt, rings as usize)
 }
 
 // The answer, atoms, bonds, and the count field of a refused file.
-pub fn reading(reading: Reading) {
-    crate::text(b"read");
-    crate::answer(reading.answer);
-    crate::number(reading.atoms);
-    crate::number(reading.bonds);
-    value(reading.value);
-    crate::line();
+pub fn reading(rt: &impl Print, reading: Reading) -> io::Result<()> {
+    crate::text(rt, b"read")?;
+    crate::answer(rt, reading.answer)?;
+    crate::number(rt, reading.atoms)?;
+    crate::number(rt, reading.bonds)?;
+    value(rt, reading.value)?;
+    crate::line(rt)
 }
 
 // A count field, of those that the cases have.
-fn value(n: i32) {
+fn value(rt: &impl Print, n: i32) -> io::Result<()> {
     if n == 0 {
-        crate::text(b" 0");
+        crate::text(rt, b" 0")
     } else if n == -1 {
-        crate::text(b" -1");
+        crate::text(rt, b" -1")
     } else if n == -32768 {
-        crate::text(b" -32768");
+        crate::text(rt, b" -32768")
     } else if n == 251 {
-        crate::text(b" 251");
+        crate::text(rt, b" 251")
     } else if n == 999 {
-        crate::text(b" 999");
+        crate::text(rt, b" 999")
     } else if n == 1001 {
-        crate::text(b" 1001");
+        crate::text(rt, b" 1001")
     } else {
-        crate::text(b" another");
+        crate::text(rt, b" another")
     }
 }

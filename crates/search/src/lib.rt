@@ -1,4 +1,6 @@
 // The search for shortest-path rings: counting and listing them.
+#![tactic(auto)]
+
 mod answers;
 mod grow;
 mod pairs;

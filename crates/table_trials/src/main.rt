@@ -1,24 +1,27 @@
 // Runs the cases of bond tables, distances and network files, each refusal from both sides of its border: a printed line for
 // each answer.
+#![tactic(auto)]
+
 mod readings;
 mod tables;
 mod writings;
 
 use network::Network;
+use std::io;
 
 // The words of the greatest table.
 pub const WORDS: usize = Network::ATOMS * Network::PLACES;
 
 // The paper's Fig. 1, a to g as 0 to 6: each row's eight places, a stroke for a free one.
-fn main() {
+fn main(rt: HostRuntime) -> io::Result<()> {
     let mut figure = [Network::FREE; 56];
     fill(
         &mut figure,
         b"14------023-----15------156-----05------2346----35------",
     );
-    tables::run(&figure);
-    readings::run();
-    writings::run(&figure);
+    tables::run(&rt, &figure)?;
+    readings::run(&rt)?;
+    writings::run(&rt, &figure)
 }
 
 // The table so written.

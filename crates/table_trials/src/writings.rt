@@ -4,6 +4,7 @@ ghost use Rattle.std.specs.Prelude.{◌≤◌};
 use crate::WORDS;
 use network::Network;
 use say::results;
+use std::io;
 
 // The bytes of the greatest file.
 const GREATEST: usize = bnw::HEAD + bnw::BOND * bnw::BONDS;
@@ -11,48 +12,49 @@ const GREATEST: usize = bnw::HEAD + bnw::BOND * bnw::BONDS;
 // The atoms of a group of the greatest table: an atom's neighbours, the atom and its partner.
 const GROUP: usize = Network::PLACES + 2;
 
-pub fn run(figure: &[u16]) {
-    there(figure);
-    greatest();
+pub fn run(rt: &impl Print, figure: &[u16]) -> io::Result<()> {
+    there(rt, figure)?;
+    greatest(rt)
 }
 
 // Fig. 1 written into 44, 45 and 46 bytes, and its file read and written again.
-fn there(figure: &[u16]) {
-    write(figure, 44);
-    write(figure, 45);
-    write(figure, 46);
+fn there(rt: &impl Print, figure: &[u16]) -> io::Result<()> {
+    write(rt, figure, 44)?;
+    write(rt, figure, 45)?;
+    write(rt, figure, 46)?;
     back(
+        rt,
         b"BNW\x01\x00\x07\x00\x09\x00\x00\x00\x01\x00\x00\x00\x04\x00\x01\x00\x02\x00\x01\x00\x03\x00\x02\x00\x05\x00\x03\x00\x05\x00\x03\x00\x06\x00\x04\x00\x05\x00\x05\x00\x06\x00",
         figure,
-    );
+    )
 }
 
 // Writes seven atoms into so many bytes, and shows them and those after them.
-fn write(table: &[u16], room: usize) {
+fn write(rt: &impl Print, table: &[u16], room: usize) -> io::Result<()> {
     if 46 < room {
-        return;
+        return Ok(());
     }
     let mut file = [9u8; 46];
     let written = bnw_writer::write(7, table, &mut file[..room]);
-    say::named(b"write, bytes", room);
-    say::answer(written.answer);
-    say::number(written.bytes);
-    say::line();
-    say::rows(&file, 46);
+    say::named(rt, b"write, bytes", room)?;
+    say::answer(rt, written.answer)?;
+    say::number(rt, written.bytes)?;
+    say::line(rt)?;
+    say::rows(rt, &file, 46)
 }
 
 // The file of Fig. 1 read and written again.
-fn back(file: &[u8], table: &[u16]) {
+fn back(rt: &impl Print, file: &[u8], table: &[u16]) -> io::Result<()> {
     let mut read = [0u16; 56];
-    results::reading(bnw_reader::read(file, &mut read));
-    same(table, &read);
-    write(&read, 45);
+    results::reading(rt, bnw_reader::read(file, &mut read))?;
+    same(rt, table, &read)?;
+    write(rt, &read, 45)
 }
 
-fn same(table: &[u16], read: &[u16]) {
-    say::named(b"the same words", alike(table, read));
-    say::named(b" of", table.len());
-    say::line();
+fn same(rt: &impl Print, table: &[u16], read: &[u16]) -> io::Result<()> {
+    say::named(rt, b"the same words", alike(table, read))?;
+    say::named(rt, b" of", table.len())?;
+    say::line(rt)
 }
 
 // How many words at the same places are the same.
@@ -76,16 +78,16 @@ fn equal(a: u16, b: u16) -> usize
 }
 
 // 250 atoms with eight bonds each: 1000 bonds in 4,009 bytes.
-fn greatest() {
+fn greatest(rt: &impl Print) -> io::Result<()> {
     let mut table = [Network::FREE; WORDS];
     bond_groups(&mut table);
     let mut file = [0u8; GREATEST + 1];
     let written = bnw_writer::write(Network::ATOMS, &table, &mut file);
-    say::text(b"write, the most atoms and bonds");
-    say::answer(written.answer);
-    say::number(written.bytes);
-    say::line();
-    again(&file, &table);
+    say::text(rt, b"write, the most atoms and bonds")?;
+    say::answer(rt, written.answer)?;
+    say::number(rt, written.bytes)?;
+    say::line(rt)?;
+    again(rt, &file, &table)
 }
 
 // Groups of atoms in which each is bonded to all but itself and its partner, the other of its pair.
@@ -113,11 +115,11 @@ fn neighbour(i: usize) -> u16 {
 }
 
 // The greatest file read again.
-fn again(file: &[u8], table: &[u16]) {
+fn again(rt: &impl Print, file: &[u8], table: &[u16]) -> io::Result<()> {
     if file.len() < GREATEST {
-        return;
+        return Ok(());
     }
     let mut read = [0u16; WORDS];
-    results::reading(bnw_reader::read(&file[..GREATEST], &mut read));
-    same(table, &read);
+    results::reading(rt, bnw_reader::read(&file[..GREATEST], &mut read))?;
+    same(rt, table, &read)
 }
