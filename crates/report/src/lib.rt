@@ -1,4 +1,6 @@
 // What the listing programs print for a network file and for a molfile, as bytes in a lent buffer.
+#![tactic(auto)]
+
 ghost use Rattle.std.specs.Prelude.{◌≡◌, ◌*◌, ◌≤◌, length, take};
 ghost use Rattle.network.specs.Maxima.{places};
 ghost use Rattle.network.specs.Network.{IsNetwork};
