@@ -1,5 +1,7 @@
 // Each call of the library, made, and ensured of it all that is demanded of it, refused or accepted (`demands`); none requires anything.
 // The programs' are in program; calls made one after the other are in `two_calls`.
+#![tactic(auto)]
+
 pub mod program;
 
 ghost use Rattle.demands.specs.Calls.{ValidateMet, DistancesMet, CandidateMet, CountMet, ListMet, RenumberMet, ReadMet, ReadMolfileMet, WriteMet};

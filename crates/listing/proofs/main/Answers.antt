@@ -4,7 +4,7 @@ use Prim.Native.Nat.{ℕ, ◌≤◌}
 use Rattle.listing.proofs.main.Goals as goal
 
 pub slice_bounds-out-end : goal.slice_bounds-out-end
-slice_bounds-out-end c = subst (λ (m : ℕ). c.respond-bytes.result ≤ m) (sym c.respond-bytes.auto.1.0) (responds_inside read_text_fits c.respond-bytes.ensures)
+slice_bounds-out-end c = subst (λ (m : ℕ). c.respond-bytes.result ≤ m) (sym c.respond-bytes.auto.out) (responds_inside read_text_fits c.respond-bytes.ensures)
 
 pub slice_bounds-write_all-end : goal.slice_bounds-write_all-end
-slice_bounds-write_all-end c = part_length _ _ (subst (λ (m : ℕ). c.respond-bytes.result ≤ m) (sym c.respond-bytes.auto.1.0) (responds_inside read_text_fits c.respond-bytes.ensures))
+slice_bounds-write_all-end c = part_length _ _ (subst (λ (m : ℕ). c.respond-bytes.result ≤ m) (sym c.respond-bytes.auto.out) (responds_inside read_text_fits c.respond-bytes.ensures))

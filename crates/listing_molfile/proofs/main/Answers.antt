@@ -8,14 +8,14 @@ use Rattle.listing_molfile.proofs.main.Goals as goal
 pub slice_bounds-read_full-end : goal.slice_bounds-read_full-end
 slice_bounds-read_full-end c = sym (length-replicate {0} {A = ℕ} molfile_bytes 0)
 
-pub slice_bounds-file-end : goal.slice_bounds-file-end
-slice_bounds-file-end c = c.read_full-got.ensures.0
-
-pub slice_bounds-respond_molfile-end : goal.slice_bounds-respond_molfile-end
-slice_bounds-respond_molfile-end c = c.read_full-got.ensures.1
-
 pub slice_bounds-out-end : goal.slice_bounds-out-end
-slice_bounds-out-end c = subst (λ (m : ℕ). c.respond_molfile-bytes.result ≤ m) (sym c.respond_molfile-bytes.auto.1.0) (responds_inside read_text_fits c.respond_molfile-bytes.ensures)
+slice_bounds-out-end c = subst (λ (m : ℕ). c.respond_molfile-bytes.result ≤ m) (sym c.respond_molfile-bytes.auto.out) (responds_inside read_text_fits c.respond_molfile-bytes.ensures)
 
 pub slice_bounds-write_all-end : goal.slice_bounds-write_all-end
-slice_bounds-write_all-end c = part_length _ _ (subst (λ (m : ℕ). c.respond_molfile-bytes.result ≤ m) (sym c.respond_molfile-bytes.auto.1.0) (responds_inside read_text_fits c.respond_molfile-bytes.ensures))
+slice_bounds-write_all-end c = part_length _ _ (subst (λ (m : ℕ). c.respond_molfile-bytes.result ≤ m) (sym c.respond_molfile-bytes.auto.out) (responds_inside read_text_fits c.respond_molfile-bytes.ensures))
+
+pub slice_bounds-file-end : goal.slice_bounds-file-end
+slice_bounds-file-end c = c.read_full-got.ensures
+
+pub slice_bounds-respond_molfile-end : goal.slice_bounds-respond_molfile-end
+slice_bounds-respond_molfile-end c = part_length _ _ c.read_full-got.ensures
