@@ -10,7 +10,6 @@ use lib.Dec.{eqb, ltb}
 use lib.ListN.{length}
 use Rattle.network.specs.declared.Answer.{Answer}
 use Rattle.network.specs.Maxima.{atoms_most, places}
-use Rattle.network.specs.Verdict.{answer}
 use Rattle.bonds.specs.declared.Reading.{Reading}
 use Rattle.bonds.specs.Bonds.{Bond, EarlierBond, partners, bonds_below, Ninth}
 use Rattle.bonds.specs.Scan.{or_at, first_bond}

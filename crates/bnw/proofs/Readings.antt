@@ -2,7 +2,7 @@
 use mathlib.Core.Path.{◌≡◌, refl, sym, ◌∙◌, ap}
 use mathlib.Core.Bool.{Bool, true, false, cond, ◌||◌, ◌&&◌, not}
 use mathlib.Core.List.{List, ◌++◌}
-use Prim.Native.Nat.{ℕ, ◌+◌, ◌-◌, ◌*◌, ◌≤◌, ◌<◌}
+use Prim.Native.Nat.{ℕ, ◌+◌, ◌*◌, ◌≤◌, ◌<◌}
 use native.Mathlib.Omega.{arith}
 use native.Mathlib.Decide.{dec_lt, ℕ_discrete}
 use lib.IntN.{ℤ, pos}
@@ -12,7 +12,7 @@ use Rattle.graph.proofs.Lists.{sets_front}
 use Rattle.network.specs.declared.Answer.{Answer}
 use Rattle.network.specs.Maxima.{atoms_most, places}
 use Rattle.network.specs.Network.{Counted}
-use Rattle.network.specs.Verdict.{refusal, answer}
+use Rattle.network.specs.Verdict.{refusal}
 use Rattle.bonds.specs.Bonds.{Bond, partners, ValidBonds, table_of, bonds_below, full}
 use Rattle.bonds.specs.Scan.{first_bond, or_at}
 use Rattle.bonds.proofs.Order.{length_below}

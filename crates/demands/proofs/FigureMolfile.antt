@@ -8,7 +8,6 @@ use Rattle.bonds.specs.Bonds.{partner, partners, full}
 use Rattle.bonds.specs.Scan.{or_at, first_bond}
 use Rattle.molfile.specs.Lines.{line_feed, ends_here, line_of, past_line, from_line}
 use Rattle.molfile.specs.Columns.{is_digit, number_at, value_at}
-use Rattle.molfile.specs.Molfile.{atom_count, bond_count}
 use Rattle.molfile.specs.Judging.{has_version, two_numbers, counts_fault, pair_seen, pair_fault, molfile_verdict}
 use Rattle.text.specs.Letters.{letters}
 

@@ -1,5 +1,7 @@
 // What is demanded of the library: the sentences are in specs/Demands, which says where each is stated; that contracts as the library's meet
 // them, and one outcome only, is in proofs/. The crates `calls` and `two_calls` make the calls, and ensure of them all that is demanded.
+#![tactic(auto)]
+
 use bnw::FileWritten;
 use bonds::Reading;
 use census::Census;

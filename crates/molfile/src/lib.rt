@@ -1,4 +1,5 @@
 // The molfile: where its numbers stand. What it means is in specs/; the crate molfile_reader has the code.
+#![tactic(auto)]
 
 // The lines before the counts line.
 pub const HEADER: usize = 3;

@@ -2,6 +2,8 @@
 //
 // Each function passes on one call and has that call's contract; a slice crosses as pointer and length, an
 // answer that holds an enum as a flat struct (`flat`).
+#![tactic(auto)]
+
 ghost use Rattle.std.specs.Prelude.{◌≡◌};
 ghost use Rattle.network.specs.Verdict.{verdict};
 ghost use Rattle.candidate.specs.CandidateOutcome.{CandidateOutcome};

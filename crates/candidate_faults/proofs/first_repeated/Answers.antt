@@ -1,4 +1,3 @@
-use Prim.Native.Nat.{◌-◌}
 use native.Mathlib.Omega.{arith}
 use Rattle.candidate_faults.proofs.Firsts.{first_start, first_here, first_next, first_never, below, not_below}
 use Rattle.candidate_faults.proofs.first_repeated.Goals as goal

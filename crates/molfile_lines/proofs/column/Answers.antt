@@ -1,4 +1,3 @@
-use Prim.Native.Nat.{◌-◌}
 use mathlib.Core.Path.{refl}
 use Rattle.molfile.proofs.Lines.{column_none, column_here, column_next, column_past}
 use Rattle.molfile_lines.proofs.column.Goals as goal

@@ -1,4 +1,3 @@
-use Prim.Native.Nat.{◌-◌}
 use Rattle.molfile.proofs.Lines.{passing_start, past_here, past_next, past_end}
 use Rattle.molfile_lines.proofs.past_line.Goals as goal
 

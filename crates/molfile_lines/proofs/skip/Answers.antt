@@ -1,4 +1,3 @@
-use Prim.Native.Nat.{◌-◌}
 use native.Mathlib.Omega.{arith}
 use Rattle.molfile.proofs.Lines.{skip_start, skip_next, skip_done}
 use Rattle.molfile_lines.proofs.skip.Goals as goal

@@ -1,4 +1,3 @@
-use Prim.Native.Nat.{◌-◌}
 use native.Mathlib.Omega.{arith}
 use Rattle.molfile.proofs.Lines.{width_start, width_here, width_next, width_end}
 use Rattle.molfile_lines.proofs.width.Goals as goal

@@ -1,4 +1,3 @@
-use Prim.Native.Nat.{◌-◌}
 use native.Mathlib.Omega.{arith}
 use Rattle.std.proofs.Common.{rules}
 use Rattle.names.proofs.NameScans.{faults_start, faults_here, faults_next, faults_never}

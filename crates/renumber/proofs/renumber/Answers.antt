@@ -23,10 +23,10 @@ returns-then-named-ne0 c = search out_18
 
 pub rename_rows-requires : goal.rename_rows-requires
 rename_rows-requires c = (
-      is_network _ _ _ c.validate-found.ensures c.if-found-ne0.false,
-      is_one_to_one _ _ _ c.if-names-n.false c.name_faults-named.ensures c.if-named-ne0.false,
-      c.if-renamed-n.false,
-    )
+  is_network _ _ _ c.validate-found.ensures c.if-found-ne0.false,
+  is_one_to_one _ _ _ c.if-names-n.false c.name_faults-named.ensures c.if-named-ne0.false,
+  c.if-renamed-n.false,
+)
 
 pub returns : goal.returns
 returns c = search out_renumbered

@@ -1,4 +1,3 @@
-use Prim.Native.Nat.{◌-◌}
 use native.Mathlib.Omega.{arith}
 use Rattle.std.proofs.Common.{rules}
 use Rattle.bonds.proofs.Scan.{bonds_start, bonds_here, bonds_next, bonds_never}

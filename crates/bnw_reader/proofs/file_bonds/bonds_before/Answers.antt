@@ -1,5 +1,4 @@
 use Rattle.std.proofs.Common.{rules}
-use Prim.Native.Nat.{◌-◌}
 use native.Mathlib.Omega.{arith}
 use Rattle.bonds.proofs.Partners.{partners_start, counts_more, counts_done}
 use Rattle.bnw.specs.Reading.{bond_in}

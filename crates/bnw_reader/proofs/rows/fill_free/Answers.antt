@@ -1,4 +1,3 @@
-use Prim.Native.Nat.{◌-◌}
 use Rattle.std.proofs.Common.{rules}
 use Rattle.bonds.proofs.Runs.{free_start, free_more, free_done}
 use Rattle.bnw_reader.proofs.rows.fill_free.Goals as goal

@@ -2,7 +2,7 @@ use Rattle.bonds.specs.Bonds.{partners}
 use Rattle.bonds.proofs.Partners.{partners_fit, ends_more, fills_more, ends_done, fills_done}
 use mathlib.Core.Path.{refl}
 use Rattle.std.proofs.Common.{rules}
-use Prim.Native.Nat.{◌-◌, ◌*◌}
+use Prim.Native.Nat.{◌*◌}
 use native.Mathlib.Omega.{arith}
 use Rattle.network.specs.Maxima.{places}
 use Rattle.bnw.specs.Reading.{bond_in}

@@ -1,7 +1,6 @@
 use Rattle.bonds.proofs.TableBonds.{bonds_fit}
 use Rattle.bnw.proofs.WrittenBonds.{past_more, written_more, written_done}
 use Rattle.std.proofs.Common.{rules}
-use Prim.Native.Nat.{◌-◌}
 use mathlib.Core.Path.{refl}
 use native.Mathlib.Omega.{arith}
 use Rattle.bnw_writer.proofs.bytes.write_bonds.Goals as goal

@@ -1,6 +1,4 @@
-use Prim.Native.Nat.{◌-◌}
 use native.Mathlib.Omega.{arith}
-use Rattle.candidate.specs.ShorterPairs.{short_after}
 use Rattle.candidate_faults.proofs.Firsts.{first_start, first_here, first_next, first_never, below, not_below}
 use Rattle.candidate.proofs.pairs.first_short.Goals as goal
 

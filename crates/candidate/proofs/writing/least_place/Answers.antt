@@ -1,4 +1,3 @@
-use Prim.Native.Nat.{◌-◌}
 use native.Mathlib.Omega.{arith}
 use Rattle.ring.proofs.Readers.{least_first, least_more, least_all}
 use Rattle.candidate.proofs.writing.least_place.Goals as goal

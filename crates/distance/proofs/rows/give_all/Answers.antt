@@ -1,4 +1,3 @@
-use Prim.Native.Nat.{◌-◌}
 use mathlib.Core.Path.{refl}
 use native.Mathlib.Omega.{arith}
 use Rattle.distance.proofs.Fills.{give_free, give_next, give_end, filled_none, filled_more, unreached_le}

@@ -1,4 +1,4 @@
-use Prim.Native.Nat.{◌≤◌, ◌<◌, ◌-◌}
+use Prim.Native.Nat.{◌≤◌, ◌<◌}
 use native.Mathlib.Omega.{arith}
 use lib.ListN.{length}
 use Rattle.distance.proofs.Fills.{level_start, level_next, level_end, filled_none, filled_more, unreached_le}

@@ -1,4 +1,3 @@
-use Prim.Native.Nat.{◌-◌}
 use mathlib.Core.Path.{refl}
 use native.Mathlib.Omega.{arith}
 use Rattle.molfile.proofs.Reading.{so_far_start, refused_here, atoms_here, so_far_next, all_right}

@@ -1,4 +1,3 @@
-use Prim.Native.Nat.{◌-◌}
 use native.Mathlib.Omega.{arith}
 use Rattle.std.proofs.Common.{rules}
 use Rattle.renumber.proofs.LeastNames.{least_none, least_more, least_all, below_most, in_table, has_name}

@@ -1,4 +1,4 @@
-use Rattle.std.proofs.Common.{◌-◌, get_or, sym, refl, ap, ◌∙◌, arith}
+use Rattle.std.proofs.Common.{get_or, sym, refl, ap, ◌∙◌, arith}
 use Rattle.ring.proofs.Readers.{copied_none, copied_more, copied_all, reading_at, reading_long}
 use Rattle.ring.proofs.writing.read.Goals as goal
 

@@ -1,4 +1,3 @@
-use Prim.Native.Nat.{◌-◌}
 use lib.ListN.{length-set}
 use Rattle.std.proofs.Common.{rules}
 use Rattle.ring_trials.proofs.models.append.Goals as goal

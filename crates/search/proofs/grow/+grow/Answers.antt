@@ -1,5 +1,4 @@
 use mathlib.Core.Bool.{true, false}
-use mathlib.Core.Logic.{⊎_elim}
 use mathlib.Core.Path.{◌≡◌, refl, sym, ap, ◌∙◌}
 use Prim.Native.Nat.{◌-◌}
 use native.Mathlib.Omega.{arith}
@@ -8,7 +7,7 @@ use Rattle.network.specs.Maxima.{places}
 use Rattle.census.specs.Census.{plain}
 use Rattle.notes.specs.Noting.{note_all}
 use Rattle.paths.specs.Turn.{may_follow}
-use Rattle.paths.specs.Search.{gather_below, branch}
+use Rattle.paths.specs.Search.{gather_below}
 use Rattle.search.proofs.Ahead.{hint_kept, hint_grown, looks_kept}
 use Rattle.search.proofs.Paths.{given_of, given_whole, given_kept, grows_kept, grows_on, grown_kept, grown_path}
 use Rattle.search.proofs.Rows.{turn_no, turn_yes, extend_some, whole_result, within_row, ends_of, row_done, goes_is}
@@ -92,7 +91,7 @@ loop-i-preserved t c = let g = c.requires.grows in
     let told = looks_kept (may_follow c.args.n c.args.dist.now c.args.k) c.args.n c.args.dist.now c.args.k _ _ _ _ kept c.may_follow-next.ensures in (
       omega (arith, c.loop-i-test.true),
       elim c.if-next-ne0.branch [
-        then-next-ne0 w ↦ (
+        | then-next-ne0 w ↦ (
           ap length w.list-is ∙ w.grow-f.auto.list ∙ v.invariant.1.0,
           (
             rw (w.list-is, w.f-is) (turn_yes _ _ _ _ _ _ _ _ _ _ _ v.invariant.1.1.0 _ _ _ (goes_is _ _ _ _ _ _ here _ true c.if-n-w.false refl (told.yes w.if-next-ne0.true).0) (sym c.wide-w.ensures ∙ here) (grown_path _ _ _ _ _ _ g.begun c.if-left-eq0.false g.net.most g.atoms kept room) w.grow-f.ensures.result),

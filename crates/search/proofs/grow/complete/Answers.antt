@@ -1,7 +1,6 @@
-use mathlib.Core.Path.{◌≡◌, sym, ◌∙◌}
+use mathlib.Core.Path.{sym, ◌∙◌}
 use Prim.Native.Nat.{◌≤◌}
 use lib.ListN.{length, take}
-use lib.Seq.{length-take-le}
 use Rattle.ring.specs.Maxima.{ring_most}
 use Rattle.census.specs.Census.{plain}
 use Rattle.notes.proofs.Notes.{right_note, one_ring}

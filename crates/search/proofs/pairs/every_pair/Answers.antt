@@ -1,9 +1,6 @@
-use mathlib.Core.Bool.{true}
 use mathlib.Core.Path.{refl, sym, ◌∙◌}
-use Prim.Native.Nat.{◌-◌}
 use native.Mathlib.Omega.{arith}
-use borrow.Author.Tests.{not-true, not-false}
-use Rattle.paths.specs.Search.{fits_before, every_pair, all_below}
+use Rattle.paths.specs.Search.{every_pair, all_below}
 use Rattle.paths.proofs.Below.{all_more, all_fails, all_done}
 use Rattle.search.proofs.pairs.every_pair.Goals as goal
 

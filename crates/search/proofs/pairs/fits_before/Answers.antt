@@ -1,9 +1,6 @@
-use mathlib.Core.Bool.{true}
 use mathlib.Core.Path.{refl, sym, ◌∙◌}
-use Prim.Native.Nat.{◌-◌}
 use native.Mathlib.Omega.{arith}
-use borrow.Author.Tests.{not-true, not-false}
-use Rattle.paths.specs.Search.{pair_fits, fits_before, all_below}
+use Rattle.paths.specs.Search.{fits_before, all_below}
 use Rattle.paths.proofs.Below.{all_more, all_fails, all_done}
 use Rattle.search.proofs.pairs.fits_before.Goals as goal
 

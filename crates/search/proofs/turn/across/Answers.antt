@@ -1,6 +1,5 @@
 use mathlib.Core.Path.{sym, ◌∙◌}
 use native.Mathlib.Omega.{arith}
-use borrow.Author.Tests.{not-true, not-false}
 use Rattle.search.proofs.Paths.{path_long}
 use Rattle.search.proofs.Turns.{across_past, across_no, across_even, across_odd}
 use Rattle.search.proofs.turn.across.Goals as goal

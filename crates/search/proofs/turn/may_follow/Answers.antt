@@ -1,6 +1,5 @@
 use mathlib.Core.Path.{refl, sym, ◌∙◌}
 use native.Mathlib.Omega.{arith}
-use borrow.Author.Tests.{not-true, not-false}
 use Rattle.search.proofs.Ahead.{looks_none, looks_same}
 use Rattle.search.proofs.Paths.{path_long}
 use Rattle.search.proofs.Turns.{may_low, may_1, may_2, may_3, may_4}

@@ -1,5 +1,5 @@
 use mathlib.Core.Path.{sym, ◌∙◌}
-use Prim.Native.Nat.{◌-◌, ◌+◌}
+use Prim.Native.Nat.{◌+◌}
 use native.Mathlib.Omega.{arith}
 use native.Mathlib.Nat.{le_refl}
 use Rattle.search.proofs.Ahead.{passed_more}
@@ -70,8 +70,8 @@ returns-else-far-w-3 c = let v = c.loop-y in
 
 pub returns-else-y-n : goal.returns-else-y-n
 returns-else-y-n c = record {
-      after = c.requires.a_lt_n.1.0;
-      within = le_refl _;
-      passed = λ z ge lt e. c.loop-y.invariant.1.1 z ge (omega (arith, lt, c.if-y-n.false)) e;
-      there = λ l. absurd (omega arith);
-    }
+  after = c.requires.a_lt_n.1.0;
+  within = le_refl _;
+  passed = λ z ge lt e. c.loop-y.invariant.1.1 z ge (omega (arith, lt, c.if-y-n.false)) e;
+  there = λ l. absurd (omega arith);
+}
