@@ -1,13 +1,13 @@
 -- The averages of a census (document 01, "What an accepted call says").
 --
---   quotient a b                a over b: both numbers cast without loss, and one division
+--   quotient a b                 a over b: both numbers cast without loss, and one division
 --   plus_zero                    +0.0: the number whose 64 bits are all 0
 --   mean_of total lengths        the mean length of `total` rings whose lengths add up to `lengths`: the quotient, or that there are no rings
 --   MeanValues, mean_values m    the outline's values of a mean, for each case of the enum: no rings is number 0 with +0.0, a mean is
---                               number 1 with its value
+--                                number 1 with its value
 --   averages_of n total lengths  rings per atom, and the mean
 --   no_averages                  what a refused call gives
---   AveragesTold a r            r tells the averages a: the same rings per atom, and a mean of the same values
+--   AveragesTold a r             r tells the averages a: the same rings per atom, and a mean of the same values
 use Rattle.std.specs.Prelude.{◌≡◌, cond, ℕ, pos, Float, eqb}
 use Rattle.std.specs.Float.Ieee as Ieee
 use Rattle.std.specs.Float.{binary64}

@@ -10,7 +10,7 @@ use lib.ListN.{length, get_or, take}
 use lib.Seq.{take-suc, take_all, ext_get_or, get_or-append-add}
 use borrow.Author.Tests.{eq-eqb, ne_eqb}
 use Rattle.graph.specs.Lists.{gather, numbers_from}
-use Rattle.graph.proofs.Lists.{get_d_map, get_d_count, length_count}
+use Rattle.graph.proofs.Lists.{get_or_map, get_or_count, length_count}
 use Rattle.bonds.specs.Bonds.{Bond, bonds_below}
 use Rattle.bonds.proofs.Runs.{gather_one, map_more}
 use Rattle.bonds.proofs.Order.{length_below}
@@ -128,5 +128,5 @@ module _ (n : ℕ) (bonds : List Bond) where
   bonds_read =
       ext_get_or none (bonds_below (bond_in (file_of n bonds)) (length bonds)) bonds (length_below (bond_in (file_of n bonds)) (length bonds))
       (λ k h. let l : k < length bonds = omega (arith, length_below (bond_in (file_of n bonds)) (length bonds)) in
-      get_d_map (bond_in (file_of n bonds)) (numbers_from (length bonds) 0) k 0 none (omega (arith, length_count (length bonds) 0))
-      ∙ ap (bond_in (file_of n bonds)) (get_d_count (length bonds) 0 k 0 l ∙ (let e : 0 + k ≡ k = omega arith in e)) ∙ bond_read k l)
+      get_or_map (bond_in (file_of n bonds)) (numbers_from (length bonds) 0) k 0 none (omega (arith, length_count (length bonds) 0))
+      ∙ ap (bond_in (file_of n bonds)) (get_or_count (length bonds) 0 k 0 l ∙ (let e : 0 + k ≡ k = omega arith in e)) ∙ bond_read k l)

@@ -1,12 +1,12 @@
 -- The network file (document 01, "The network file"): what its bytes are; what table its bonds define is in crate `bonds`.
 --
 --   mark, version             "BNW", 1
---   bonds_most                 the most bonds: each of the most atoms has a bond at every place, and each bond has two atoms
---   head_length, bond_length    the bytes before the bonds, and those of a bond
---   two_bytes v                v, little-endian
---   bond_bytes b               a bond: two unsigned 16-bit atoms
---   head_of n bonds            the head: mark, version, atom count, bond count
---   file_of n bonds            the file: the head, then the bonds
+--   bonds_most                the most bonds: each of the most atoms has a bond at every place, and each bond has two atoms
+--   head_length, bond_length  the bytes before the bonds, and those of a bond
+--   two_bytes v               v, little-endian
+--   bond_bytes b              a bond: two unsigned 16-bit atoms
+--   head_of n bonds           the head: mark, version, atom count, bond count
+--   file_of n bonds           the file: the head, then the bonds
 use Rattle.std.specs.Prelude.{List, [], ◌∷◌, ◌++◌, ℕ, ◌*◌, ◌/◌, ◌%◌, length}
 use Rattle.graph.specs.Lists.{gather}
 use Rattle.network.specs.Maxima.{atoms_most, places}

@@ -1,23 +1,23 @@
 -- What comes of reading a file: the answer, and the lent table before and after.
 --
---   of_bytes low high              the number of two bytes, little-endian, unsigned
---   field file i                  the number of the two bytes from i on
---   version_in, atoms_in, bonds_in   the fields of the head: bytes 3 and 4, 5 and 6, 7 and 8
---   Bytes file                    every element is a byte
---   signed v                      a 16-bit field in two's complement
+--   of_bytes low high               the number of two bytes, little-endian, unsigned
+--   field file i                    the number of the two bytes from i on
+--   version_in, atoms_in, bonds_in  the fields of the head: bytes 3 and 4, 5 and 6, 7 and 8
+--   Bytes file                      every element is a byte
+--   signed v                        a 16-bit field in two's complement
 --   out_of_range low high k         whether k is not from low to high
---   marked file                   whether the file begins with the mark
---   head_fault file room           the first of 19 to 25, or 0, where the table lent has `room` words
---   bond_in file k                 bond k of a file
---   earlier_bond a b               whether bond a comes before bond b
---   inside n b                    whether both atoms are below n, and the first is below the second
---   is_in_order bond k                whether bond k comes after the previous one, if there is one
+--   marked file                     whether the file begins with the mark
+--   head_fault file room            the first of 19 to 25, or 0, where the table lent has `room` words
+--   bond_in file k                  bond k of a file
+--   earlier_bond a b                whether bond a comes before bond b
+--   inside n b                      whether both atoms are below n, and the first is below the second
+--   is_in_order bond k              whether bond k comes after the previous one, if there is one
 --   file_bond_fault n bond k        26 or 27 at bond k, or 0
---   read_verdict file room         19 to 25, then 26 and 27 bond by bond
---   read_value file code           the signed value that goes with an answer: the count field at 22 and 23, otherwise 0
---   IsFile file n bonds           the file is that of n atoms and these bonds
---   ReadsAs file before after r   the file is that of r's atoms and some valid bonds, of r's number, and their table stands
---                                 first in the table lent, of which the rest stays
+--   read_verdict file room          19 to 25, then 26 and 27 bond by bond
+--   read_value file code            the signed value that goes with an answer: the count field at 22 and 23, otherwise 0
+--   IsFile file n bonds             the file is that of n atoms and these bonds
+--   ReadsAs file before after r     the file is that of r's atoms and some valid bonds, of r's number, and their table stands
+--                                   first in the table lent, of which the rest stays
 --   ReadOutcome file before after r    what comes of reading: refused, nothing is changed and the counts are 0
 use Rattle.std.specs.Prelude.{◌≡◌, Bool, true, cond, not, ◌&&◌, ◌||◌, List, ℕ, ◌+◌, ◌-◌, ◌*◌, ◌<◌, eqb, leb, ltb, ℤ, pos, negsuc, ◌-ℤ◌, length, get_or}
 use Rattle.network.specs.declared.Answer.{Answer}

@@ -1,6 +1,6 @@
 -- What comes of writing a network: the answer, and the lent bytes before and after.
 --
---   write_verdict n t room       1, 4, 7 to 11, then 28, where `room` bytes are lent
+--   write_verdict n t room      1, 4, 7 to 11, then 28, where `room` bytes are lent
 --   WriteOutcome n t before after w    refused, nothing is changed; accepted, the file stands first and the rest stays
 --   FileOfNetwork file room     the file is what writing makes of a network whose table has at most `room` words
 use Rattle.std.specs.Prelude.{◌≡◌, List, ◌++◌, ℕ, ◌*◌, ◌≤◌, ltb, length, drop}

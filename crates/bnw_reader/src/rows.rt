@@ -11,9 +11,9 @@ use network::Network;
 
 // Writes the rows of n atoms.
 pub fn fill_table(n: usize, file: &[u8], bonds: usize, table: &mut [u16])
-    requires bonds_in_bounds { head_length + bond_length * bonds ≤ length file.now }
-    requires n_in_bounds { places * n ≤ length table.old }
-    requires by_index { (x : ℕ) → length (partners (bonds_below (bond_in file.now) bonds) x) ≤ places }
+    requires bonds_there { head_length + bond_length * bonds ≤ length file.now }
+    requires room { places * n ≤ length table.old }
+    requires few { (x : ℕ) → length (partners (bonds_below (bond_in file.now) bonds) x) ≤ places }
     ensures { table.new ≡ sets table.old 0 (table_of n (bonds_below (bond_in file.now) bonds)) }
 {
     let mut x = 0;
@@ -25,9 +25,9 @@ pub fn fill_table(n: usize, file: &[u8], bonds: usize, table: &mut [u16])
 
 // Writes the row of x: its partners in the order of the bonds, then free places.
 fn fill_row(file: &[u8], bonds: usize, x: usize, table: &mut [u16])
-    requires bonds_in_bounds { head_length + bond_length * bonds ≤ length file.now }
-    requires x_in_bounds { places * suc x ≤ length table.old }
-    requires x_len_bound { length (partners (bonds_below (bond_in file.now) bonds) x) ≤ places }
+    requires bonds_there { head_length + bond_length * bonds ≤ length file.now }
+    requires room { places * suc x ≤ length table.old }
+    requires few { length (partners (bonds_below (bond_in file.now) bonds) x) ≤ places }
     ensures { table.new ≡ sets table.old (places * x) (row_of (bonds_below (bond_in file.now) bonds) x) }
 {
     let at = fill_partners(file, bonds, x, table);
@@ -36,8 +36,8 @@ fn fill_row(file: &[u8], bonds: usize, x: usize, table: &mut [u16])
 
 // Writes the partners of x from the start of its row on, and answers where they end.
 fn fill_partners(file: &[u8], bonds: usize, x: usize, table: &mut [u16]) -> usize
-    requires bonds_in_bounds { head_length + bond_length * bonds ≤ length file.now }
-    requires x_in_bounds { places * x + length (partners (bonds_below (bond_in file.now) bonds) x) ≤ length table.old }
+    requires bonds_there { head_length + bond_length * bonds ≤ length file.now }
+    requires room { places * x + length (partners (bonds_below (bond_in file.now) bonds) x) ≤ length table.old }
     ensures { (result ≡ places * x + length (partners (bonds_below (bond_in file.now) bonds) x)) × (table.new ≡ sets table.old (places * x) (partners (bonds_below (bond_in file.now) bonds) x)) }
 {
     let mut at = Network::PLACES * x;
@@ -51,8 +51,8 @@ fn fill_partners(file: &[u8], bonds: usize, x: usize, table: &mut [u16]) -> usiz
 
 // Writes the partner of x in bond k, if there is one, and answers where the next goes.
 fn fill_partner(file: &[u8], k: usize, x: usize, at: usize, table: &mut [u16]) -> usize
-    requires k_in_bounds { head_length + bond_length * suc k ≤ length file.now }
-    requires k_in_bounds_2 { at + length (partner x (bond_in file.now k)) ≤ length table.old }
+    requires bond_there { head_length + bond_length * suc k ≤ length file.now }
+    requires room { at + length (partner x (bond_in file.now k)) ≤ length table.old }
     ensures { (result ≡ at + length (partner x (bond_in file.now k))) × (table.new ≡ sets table.old at (partner x (bond_in file.now k))) }
 {
     let first = file_bonds::first_atom(file, k);

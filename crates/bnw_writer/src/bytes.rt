@@ -39,8 +39,8 @@ fn bonds_at(table: &[u16], i: usize) -> usize
 
 // Writes the mark, the version and the counts.
 pub fn write_head(n: usize, bonds: usize, file: &mut [u8])
-    requires n_le_atoms_most { (n ≤ atoms_most) × (bonds ≤ places * atoms_most) }
-    requires head_length_in_bounds { head_length ≤ length file.old }
+    requires few { (n ≤ atoms_most) × (bonds ≤ places * atoms_most) }
+    requires room { head_length ≤ length file.old }
     ensures { file.new ≡ sets file.old 0 (head_of n bonds) }
 {
     write_mark(file);
@@ -61,8 +61,8 @@ fn write_mark(file: &mut [u8])
 
 // Writes the bonds of a table after the head.
 pub fn write_bonds(table: &[u16], file: &mut [u8])
-    requires table_len_bound { length table.now ≤ places * atoms_most }
-    requires table_in_bounds { head_length + bond_length * length (bonds_of table.now) ≤ length file.old }
+    requires most { length table.now ≤ places * atoms_most }
+    requires room { head_length + bond_length * length (bonds_of table.now) ≤ length file.old }
     ensures { file.new ≡ sets file.old head_length (gather bond_bytes (bonds_of table.now)) }
 {
     let mut at = bnw::HEAD;
@@ -75,8 +75,8 @@ pub fn write_bonds(table: &[u16], file: &mut [u8])
 
 // Writes the bond at word i, if there is one, and answers where the next goes.
 fn write_bond(table: &[u16], i: usize, file: &mut [u8], at: usize) -> usize
-    requires i_in_bounds { (i < length table.now) × (length table.now ≤ places * atoms_most) }
-    requires i_in_bounds_2 { at + bond_length * length (bond_at table.now i) ≤ length file.old }
+    requires there { (i < length table.now) × (length table.now ≤ places * atoms_most) }
+    requires room { at + bond_length * length (bond_at table.now i) ≤ length file.old }
     ensures { (result ≡ at + bond_length * length (bond_at table.now i)) × (file.new ≡ sets file.old at (gather bond_bytes (bond_at table.now i))) }
 {
     let word = table[i] as usize;

@@ -8,11 +8,11 @@
 --   partner x b               the other atom of a bond of x; none where x is not in the bond
 --   partners bonds x          the atoms bonded to x, in the order of the bonds
 --   ValidBonds n bonds        bonds as a network has them: smaller atom first, atoms below n, strictly ascending, at most 8 on an atom
---   row_of bonds x             row x of the table: its partners, then free places
---   table_of n bonds           the table that the bonds define
---   bond_at t i                word i as a bond of its row: where it is a neighbour above the row's own number
---   bonds_of t                 the bonds of a table, word by word: smaller atom first, ascending
---   bonds_below bond k         the bonds of number below k
+--   row_of bonds x            row x of the table: its partners, then free places
+--   table_of n bonds          the table that the bonds define
+--   bond_at t i               word i as a bond of its row: where it is a neighbour above the row's own number
+--   bonds_of t                the bonds of a table, word by word: smaller atom first, ascending
+--   bonds_below bond k        the bonds of number below k
 --   full bond k x             whether x has, among the bonds of number below k, as many as a row has places
 --   Ninth bond k              27: one of the atoms of bond k has as many
 use Rattle.std.specs.Prelude.{◌≡◌, ◌⊎◌, Bool, cond, not, ◌&&◌, List, [], ◌∷◌, ◌++◌, map, ℕ, ◌-◌, ◌/◌, ◌≤◌, ◌<◌, eqb, leb, ltb, length, get_or, replicate}

@@ -1,7 +1,7 @@
 -- The first fault, bond by bond, as it is computed and as what an answer says.
 --
---   or_at c k later         fault c with place k; 0 is none, and what comes later decides
---   first_bond fault m k    the first fault among the m bonds from k on
+--   or_at c k later        fault c with place k; 0 is none, and what comes later decides
+--   first_bond fault m k   the first fault among the m bonds from k on
 --   BondByBond Fault m Later a    refusal c at row 0 and place k, where `Fault k c` says it of the first bond at fault; else none of the m bonds has
 --                          one, and what comes later says
 use Rattle.std.specs.Prelude.{◌≡◌, ◌⊎◌, ℕ, zero, suc, ◌+◌, ◌<◌}

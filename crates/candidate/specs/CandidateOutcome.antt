@@ -1,7 +1,7 @@
 -- What comes of testing a candidate: the answer, the outcome, the 24 words, and the distance buffer before and after.
 --
 --   Values                      the outline's values of an outcome: a number that tells the case, and a pair of places
---   no_values                    those of a refused call, where every number is 0
+--   no_values                   those of a refused call, where every number is 0
 --   values s                    the values of each case of the enum: 0 refused, 1 yes, 2 no with its pair of places
 --   Shorter t r i j             the network distance of the atoms at i and j is shorter than their ring distance
 --   FirstPair Bad k i j         i < j < k is the first bad pair of places, by i and then j

@@ -1,8 +1,8 @@
 -- How the first pair of places is found whose network distance is shorter, in a distance table d.
 --
 --   short n d r i j       the entry for the atoms at i and j is below their ring distance
---   short_after n d r i    the first place after i that is short of i, or the length
---   short_place n d r      the first place after which there is such a one, or the length
+--   short_after n d r i   the first place after i that is short of i, or the length
+--   short_place n d r     the first place after which there is such a one, or the length
 use Rattle.std.specs.Prelude.{Bool, List, ℕ, ◌+◌, ◌-◌, ltb, length, get_or}
 use Rattle.graph.specs.Graph.{around}
 use Rattle.distance.specs.Distances.{distance}

@@ -1,13 +1,13 @@
 -- What is said of a candidate before it is tested: the first fault, in the order of the numbered refusals (document 01).
 --
---   not_atom n r i                  15: the atom at place i is not below n
---   first_with r j                  the first place that has the atom of place j, at most j
---   seen_before r j                 16: the atom at place j stands earlier too
---   place_of t x y                  the first place of row x that holds y, or 8
---   not_bonded t r i                17: the atom at place i is not bonded to the next, the last to the first
---   first_place code bad k later    refusal `code` with the first bad place of k, else what comes later
---   ring_verdict n t r              14, then 15 over all places, 16 over all, 17 over all
---   candidate_verdict n t r d       1, 4, 5, 7 to 11, then 14 to 17
+--   not_atom n r i                 15: the atom at place i is not below n
+--   first_with r j                 the first place that has the atom of place j, at most j
+--   seen_before r j                16: the atom at place j stands earlier too
+--   place_of t x y                 the first place of row x that holds y, or 8
+--   not_bonded t r i               17: the atom at place i is not bonded to the next, the last to the first
+--   first_place code bad k later   refusal `code` with the first bad place of k, else what comes later
+--   ring_verdict n t r             14, then 15 over all places, 16 over all, 17 over all
+--   candidate_verdict n t r d      1, 4, 5, 7 to 11, then 14 to 17
 --   AtomsBelow n r                 every place holds an atom below n
 use Rattle.std.specs.Prelude.{Bool, cond, List, ℕ, ◌+◌, ◌*◌, ◌%◌, ◌<◌, eqb, leb, ltb, length, get_or}
 use Rattle.network.specs.declared.Answer.{Answer}

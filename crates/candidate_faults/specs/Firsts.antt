@@ -1,6 +1,6 @@
 -- The first number that passes a test.
 --
---   first_of p m i     the first of the m numbers from i on that passes p, or i + m where none does
+--   first_of p m i    the first of the m numbers from i on that passes p, or i + m where none does
 use Rattle.std.specs.Prelude.{Bool, cond, ℕ, zero, suc, ◌+◌}
 
 unfoldable pub first_of : (ℕ → Bool) → ℕ → ℕ → ℕ

@@ -4,28 +4,28 @@
 --   limit_of limit               the limit used: 0 stands for the default
 --   not_limit limit              limit is neither 0 nor 3 to 24
 --   not_allowance allowance      allowance is not 1 to 1,000,000
---   before_search n t limit allowance d    the refusals that come before the search: 1, 2, 3, 4, 5, then 7 to 11
+--   before_search n t limit allowance d   the refusals that come before the search: 1, 2, 3, 4, 5, then 7 to 11
 --   encode_by size told rings    rings as they are listed, one after another: each its length, then its words
 --   counts_by size rings         a count for each length from 0 to the greatest
---   census_with n used counts total lengths words    an accepted call's numbers, with the averages of `total` rings whose lengths add up to `lengths`
---   census_by size told n used rings    what an accepted call says: every number is a function of the list of rings
---   plain r                     the words of a ring of atoms: their numbers
---   encode, counts_of, census_of n limit rings    the same of rings of atoms
+--   census_with n used counts total lengths words   an accepted call's numbers, with the averages of `total` rings whose lengths add up to `lengths`
+--   census_by size told n used rings   what an accepted call says: every number is a function of the list of rings
+--   plain r                      the words of a ring of atoms: their numbers
+--   encode, counts_of, census_of n limit rings  the same of rings of atoms
 --   after_count allowance rings  12: more rings than the allowance
---   after_list_by words allowance room rings    12, then 13: more words than there is room for
---   after_list allowance room rings    the same of rings of atoms
+--   after_list_by words allowance room rings  12, then 13: more words than there is room for
+--   after_list allowance room rings   the same of rings of atoms
 --   no_census a                  what a call refused with the answer a says: every number is 0
---   settle a c                  the census c, or a refusal, as the answer a has it
---   settled n limit a rings     the same of the census of rings of atoms
---   SearchReached ..            the lent buffers are Filled, and the census is that of the listing
---   SearchOutcome ..            refused before the search, what is lent is Kept; otherwise the search is reached
---   ListingOutcome ..           and, accepted, the words of the rings stand at the front of the list buffer, whose rest stays; refused, it stays
---                               as it is
---   Searched ..                 the search in a network of atoms is reached: the distance buffer holds the distance table, and the census is that
---                               of the listing of the network's shortest-path rings up to the limit
---   CensusOutcome ..            counting or listing them: refused before the search, nothing is changed; otherwise it is searched
---   CountOutcome ..             what comes of counting
---   ListOutcome ..              what comes of listing
+--   settle a c                   the census c, or a refusal, as the answer a has it
+--   settled n limit a rings      the same of the census of rings of atoms
+--   SearchReached ..             the lent buffers are Filled, and the census is that of the listing
+--   SearchOutcome ..             refused before the search, what is lent is Kept; otherwise the search is reached
+--   ListingOutcome ..            and, accepted, the words of the rings stand at the front of the list buffer, whose rest stays; refused, it stays
+--                                as it is
+--   Searched ..                  the search in a network of atoms is reached: the distance buffer holds the distance table, and the census is that
+--                                of the listing of the network's shortest-path rings up to the limit
+--   CensusOutcome ..             counting or listing them: refused before the search, nothing is changed; otherwise it is searched
+--   CountOutcome ..              what comes of counting
+--   ListOutcome ..               what comes of listing
 use Rattle.std.specs.Prelude.{◌≡◌, Bool, ◌&&◌, ◌||◌, not, cond, List, [], ◌∷◌, ◌++◌, map, ℕ, ◌+◌, ◌*◌, eqb, leb, ltb, length, replicate}
 use Rattle.std.proofs.lemmas.List.Edits.{sets}
 use Rattle.graph.specs.Lists.{numbers_from}

@@ -1,6 +1,6 @@
 -- Demand 2, of files.
 --
---   rows_read r table'           the rows that a reading has filled
+--   rows_read r table'          the rows that a reading has filled
 --   ReadThenWrite file table table' lent lent' r      both calls meet what is demanded of them; an accepted reading leaves a network,
 --                               and writing this, where the bytes lent have room, is accepted and gives the file
 --   WriteThenRead n t file file' table table' r       both calls meet what is demanded of them; after an accepted writing, reading what

@@ -1,6 +1,6 @@
 -- The distance buffer (document 01, "The network"): n·n bytes, row by row; 255 means no path.
 --
---   no_path                    the byte for no path
+--   no_path                   the byte for no path
 --   distance d n x y          the entry for x and y
 --   DistanceTable n t d       every entry tells the distance in the network t, or that there is no path
 use Rattle.std.specs.Prelude.{◌≡◌, List, ℕ, ◌+◌, ◌*◌, ◌<◌, length, get_or}

@@ -5,7 +5,7 @@
 --   give t v e k p row        e goes to the neighbours at the k places of v's row from p on, as far as the first free place
 --   visit t d v row           v gives d + 1 where it is at d
 --   level t d k v row         so do the k atoms from v on
---   first_row n s              the row before the first pass: s is at 0, no other atom has an entry
+--   first_row n s             the row before the first pass: s is at 0, no other atom has an entry
 --   unreached row             how many atoms have no entry
 --   PassFilled old new r      r entries were filled on the way from old to new
 use Rattle.std.specs.Prelude.{◌≡◌, List, [], ◌∷◌, cond, ℕ, zero, suc, ◌+◌, ◌<◌, eqb, length, get_or, set, replicate}

@@ -1,6 +1,6 @@
 -- What comes of filling the distance buffer: the answer, and the buffer before and after.
 --
---   distance_verdict n t d        1, 4, 5, then 7 to 11
+--   distance_verdict n t d       1, 4, 5, then 7 to 11
 --   DistancesOutcome n t before after a    refused, not one byte is changed; accepted, the buffer is the distance table
 use Rattle.std.specs.Prelude.{◌≡◌, List, ℕ, ◌*◌}
 use Rattle.network.specs.declared.Answer.{Answer}

@@ -13,7 +13,7 @@ use Rattle.graph.specs.Lists.{◌∈◌, numbers_from, every}
 use Rattle.graph.specs.Graph.{Ring}
 use Rattle.graph.specs.Writing.{RingReading, OneWriting}
 use Rattle.graph.specs.Levels.{elem}
-use Rattle.graph.proofs.Lists.{and_T, T_and, every_of, gather_of, count_of, count_has, length_made, get_d_made}
+use Rattle.graph.proofs.Lists.{and_T, T_and, every_of, gather_of, count_of, count_has, length_made, get_or_made}
 use Rattle.graph.proofs.Levels.{elem_of}
 use Rattle.network.specs.Network.{Bonded, neighbours}
 use Rattle.network.proofs.Bonds.{neighbour_bonded}
@@ -71,7 +71,7 @@ written_of r h k = record { smallest = small; turn = ltb→lt (get_or r 1 0) (ge
 
 module _ (r s : List ℕ) where
   reads_at : (at : ℕ → ℕ) → s ≡ map (λ i. get_or r (at i) 0) (numbers_from (length r) 0) → (length s ≡ length r) × ((i : ℕ) → i < length r → get_or s i 0 ≡ get_or r (at i) 0)
-  reads_at at e = (ap length e ∙ length_made (λ i. get_or r (at i) 0) (length r), λ i l. ap (λ xs. get_or xs i 0) e ∙ get_d_made (λ i. get_or r (at i) 0) 0 (length r) i l)
+  reads_at at e = (ap length e ∙ length_made (λ i. get_or r (at i) 0) (length r), λ i l. ap (λ xs. get_or xs i 0) e ∙ get_or_made (λ i. get_or r (at i) 0) 0 (length r) i l)
 
   pub reading_of : s ∈ readings_of r → RingReading 0 r s
   reading_of m = go (Memᴰ.cases_cons from.2)

@@ -1,17 +1,17 @@
 -- How the checker computes whether an example holds, a near miss misses and a repeat takes a ring twice.
 --
---   list_over n t limit dist    the rings that the depth-first search lists over the distances `dist`
+--   list_over n t limit dist   the rings that the depth-first search lists over the distances `dist`
 --   same eq xs ys              the same members in the same order, where eq tells members apart
---   same_pair                   the same pair of numbers
---   lists_rings n t e dist      the search lists the example's rings
+--   same_pair                  the same pair of numbers
+--   lists_rings n t e dist     the search lists the example's rings
 --   passes e                   the example holds
 --   closed t r                 r is a ring: at least three different atoms, each bonded to the next, the last to the first
 --   misses m                   the near miss takes what is a ring, in its one writing, but does not stand in the example's list
---   onwards_from r start        r read onwards from place `start`
---   backwards_from r start      and backwards
---   readings_from r start       both
---   readings_of r               the readings of r, from each of its places
---   takes_twice m               the repeat takes a ring of the example's list and another reading of it
+--   onwards_from r start       r read onwards from place `start`
+--   backwards_from r start     and backwards
+--   readings_from r start      both
+--   readings_of r              the readings of r, from each of its places
+--   takes_twice m              the repeat takes a ring of the example's list and another reading of it
 use Rattle.std.specs.Prelude.{Bool, true, false, ◌&&◌, not, List, [], ◌∷◌, map, ℕ, suc, ◌+◌, ◌-◌, ◌%◌, eqb, leb, length, get_or}
 use Rattle.graph.specs.Lists.{gather, numbers_from, every}
 use Rattle.graph.specs.Levels.{elem}

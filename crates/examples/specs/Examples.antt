@@ -2,8 +2,8 @@
 --
 --   Example              the neighbours of each atom, a limit, the rings within it, the words that they take, and how many there
 --                        are of each length that has any, as pairs of a length and its number
---   rows_table rows       the bond table with these rows: each filled up with free places
---   by_length limit f     the lengths k up to the limit, each with its number f k, where that is above zero
+--   rows_table rows      the bond table with these rows: each filled up with free places
+--   by_length limit f    the lengths k up to the limit, each with its number f k, where that is above zero
 --   ExampleHolds e       the table is accepted, the rings are its listing, and words and counts are those of the rings
 --   P1 .. P11b           the networks; P11 is two examples, with the limits 5 and 4
 --   examples             the table of them

@@ -1,17 +1,17 @@
 -- Near misses that the work rules out (document 01): tests that take a cycle which is no shortest-path ring.
 --
 --   RingTest                 a test of a ring r in the network of n atoms with the table t
---   distances_by most n adj   distances over the neighbours adj of n atoms, by levels: right as far as `most`, and one more beyond
---   every_pair_of p k          p holds of every pair of places i < j below k
---   pairs_fit which dist r    those pairs of places of r that are chosen are at ring distance
---   every_cycle               no test at all
---   chords_only               looking for chords only: atoms that do not follow each other round the ring are not bonded
---   antipodes_of_three         testing only the antipodal pairs that start at places 0, 1 and 2
---   first_labels              testing labels from the first atom only
---   finished_dropped          dropping finished atoms, those smaller than the ring's first, from the distances as well
+--   distances_by most n adj  distances over the neighbours adj of n atoms, by levels: right as far as `most`, and one more beyond
+--   every_pair_of p k        p holds of every pair of places i < j below k
+--   pairs_fit which dist r   those pairs of places of r that are chosen are at ring distance
+--   every_cycle              no test at all
+--   chords_only              looking for chords only: atoms that do not follow each other round the ring are not bonded
+--   antipodes_of_three       testing only the antipodal pairs that start at places 0, 1 and 2
+--   first_labels             testing labels from the first atom only
+--   finished_dropped         dropping finished atoms, those smaller than the ring's first, from the distances as well
 --   NearMiss                 a wrong test, an example, and a cycle of its network
 --   Missed m                 the test takes the cycle, which is a ring of the network and no shortest-path ring
---   near_misses               the table of them: Fig. 1's two cycles that the paper rules out, then those of document 01
+--   near_misses              the table of them: Fig. 1's two cycles that the paper rules out, then those of document 01
 --   AllMissed                this holds of each
 use Rattle.std.specs.Prelude.{Bool, true, ◌&&◌, ◌||◌, not, List, [], ◌∷◌, ℕ, suc, ◌-◌, ◌/◌, T, eqb, leb, ltb, length, get_or}
 use Rattle.graph.specs.Lists.{◌∈◌, keep, numbers_from, every}

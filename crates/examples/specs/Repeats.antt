@@ -1,9 +1,9 @@
 -- The last near miss of document 01: counting each ring once per direction or starting atom.
 --
---   smallest_first r       the smallest atom stands first
---   second_smaller r       the second atom is smaller than the last
---   once_per_direction      every pair of atoms is tested, and that the smallest stands first
---   once_per_start          every pair of atoms is tested, and that the second is smaller than the last
+--   smallest_first r      the smallest atom stands first
+--   second_smaller r      the second atom is smaller than the last
+--   once_per_direction    every pair of atoms is tested, and that the smallest stands first
+--   once_per_start        every pair of atoms is tested, and that the second is smaller than the last
 --   Repeat                such a test, an example, a ring of its list, and another cycle
 --   TakenTwice m          the test takes the ring and the other: a reading of the ring, so a shortest-path ring too, but not its one
 --                         writing. A count by this test is too great

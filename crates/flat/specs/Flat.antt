@@ -1,7 +1,7 @@
 -- The answers as C has them: no enum, but a flag beside the values, which are 0 where the flag says that there are none.
 --
---   flat_census c                what counting and listing answer: the mean by its values, number 1 where there is one
---   flat_candidate c             what the test of a candidate answers: by its values, number 1 for yes
+--   flat_census c               what counting and listing answer: the mean by its values, number 1 where there is one
+--   flat_candidate c            what the test of a candidate answers: by its values, number 1 for yes
 --   PassedOn flat Contract r    r is the flat form of an answer with this contract
 use Rattle.std.specs.Prelude.{◌≡◌, eqb}
 use Rattle.candidate.specs.declared.Tested.{Tested}

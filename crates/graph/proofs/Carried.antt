@@ -15,7 +15,7 @@ use Rattle.graph.specs.Listing.{Before, Listing, Listed}
 use Rattle.graph.specs.Standing.{OneEach}
 use Rattle.graph.specs.Counts.{having}
 use Rattle.graph.specs.Carried.{Renaming, WritingOf, KeptBy, CarriedTo}
-use Rattle.graph.proofs.Lists.{keep_of, keep_has, keep_ascending, get_d_map, place_of, at_place, apart_places}
+use Rattle.graph.proofs.Lists.{keep_of, keep_has, keep_ascending, get_or_map, place_of, at_place, apart_places}
 use Rattle.graph.proofs.Pigeons.{pigeons}
 use Rattle.graph.proofs.Renamings.{ring_there}
 use Rattle.graph.proofs.Counts.{same_sums, sum_of_ones}
@@ -58,7 +58,7 @@ module _ {A : Type 0} {o : A} {◌≺◌ : A → A → Type 0} (strict : (r : Li
       same i l (no k) = F.undone (get_or r i o) (get_or r 0 o) (subst (λ n. Bonded (get_or r n o) (get_or r 0 o)) (omega arith) R.closes)
 
       at : (i : ℕ) → i < length r → Dec (suc i < length r) → get_or (map g (map f r)) i o ≡ get_or r i o
-      at i l d = get_d_map g (map f r) i o o (omega (arith, length-map r f)) ∙ ap g (get_d_map f r i o o l) ∙ same i l d
+      at i l d = get_or_map g (map f r) i o o (omega (arith, length-map r f)) ∙ ap g (get_or_map f r i o o l) ∙ same i l d
 
   -- the one writing of a listed ring, renamed, is listed
   pub carried : (r s : List A) → Listed Bonded o Written limit r → Same (map f r) s → Written s → Listed Bonded' o Written limit s

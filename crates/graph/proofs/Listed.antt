@@ -16,7 +16,7 @@ use Rattle.graph.specs.Finite.{BondedBy, FiniteNetwork}
 use Rattle.graph.specs.Listing.{RingListing}
 use Rattle.graph.specs.Levels.{hit, levels}
 use Rattle.graph.specs.Search.{rings_within, in_writing, distance_row, distance_table, look}
-use Rattle.graph.proofs.Lists.{count_of, count_has, count_ascending, and_T, T_and, or_T, true_or_left, true_or_right, get_d_map, length_count, get_d_count}
+use Rattle.graph.proofs.Lists.{count_of, count_has, count_ascending, and_T, T_and, or_T, true_or_left, true_or_right, get_or_map, length_count, get_or_count}
 use Rattle.graph.proofs.Levels.{hit_distance}
 use Rattle.graph.proofs.Search.{searched}
 
@@ -24,11 +24,11 @@ look_table : (far most size : ℕ) (adj : ℕ → List ℕ) (x y : ℕ) → x < 
     → look far (distance_table far most size adj) x y ≡ hit eqb far (levels eqb adj (suc most) (x ∷ [])) 0 y
 look_table far most size adj x y h k =
     let ex : get_or (distance_table far most size adj) x [] ≡ distance_row far (numbers_from size 0) (levels eqb adj (suc most) (x ∷ [])) =
-    get_d_map (λ z. distance_row far (numbers_from size 0) (levels eqb adj (suc most) (z ∷ []))) (numbers_from size 0) x 0 [] (omega (arith, length_count size 0))
-    ∙ ap (λ z. distance_row far (numbers_from size 0) (levels eqb adj (suc most) (z ∷ []))) (get_d_count size 0 x 0 h ∙ omega arith) in
+    get_or_map (λ z. distance_row far (numbers_from size 0) (levels eqb adj (suc most) (z ∷ []))) (numbers_from size 0) x 0 [] (omega (arith, length_count size 0))
+    ∙ ap (λ z. distance_row far (numbers_from size 0) (levels eqb adj (suc most) (z ∷ []))) (get_or_count size 0 x 0 h ∙ omega arith) in
     ap (λ t. get_or t y far) ex
-    ∙ get_d_map (λ z. hit eqb far (levels eqb adj (suc most) (x ∷ [])) 0 z) (numbers_from size 0) y 0 far (omega (arith, length_count size 0))
-    ∙ ap (hit eqb far (levels eqb adj (suc most) (x ∷ [])) 0) (get_d_count size 0 y 0 k ∙ omega arith)
+    ∙ get_or_map (λ z. hit eqb far (levels eqb adj (suc most) (x ∷ [])) 0 z) (numbers_from size 0) y 0 far (omega (arith, length_count size 0))
+    ∙ ap (hit eqb far (levels eqb adj (suc most) (x ∷ [])) 0) (get_or_count size 0 y 0 k ∙ omega arith)
 
 in_writing_of : (r : List ℕ) → 3 ≤ length r → ((j : ℕ) → suc j < length r → T (in_writing (length r) (take (suc j) r) (get_or r (suc j) 0))) → OneWriting r
 in_writing_of r h t = record { smallest = small; turn = subst (λ n. get_or r 1 0 < get_or r n 0) (omega arith) (last (length r - 2) (omega arith)) }

@@ -196,19 +196,19 @@ count_has (suc n) a k h l = go (ℕ_discrete k a) (count_has n (suc a) k)
     go (no e) ih = Memᴰ.tail (ih (omega arith) (omega arith))
 
 -- places
-pub get_d_map : {A B : Type 0} (f : A → B) (l : List A) (i : ℕ) (a : A) (b : B) → i < length l → get_or (map f l) i b ≡ f (get_or l i a)
-get_d_map f [] i a b h = absurd (omega arith)
-get_d_map f (x ∷ l) zero a b h = refl
-get_d_map f (x ∷ l) (suc i) a b h = get_d_map f l i a b (omega arith)
+pub get_or_map : {A B : Type 0} (f : A → B) (l : List A) (i : ℕ) (a : A) (b : B) → i < length l → get_or (map f l) i b ≡ f (get_or l i a)
+get_or_map f [] i a b h = absurd (omega arith)
+get_or_map f (x ∷ l) zero a b h = refl
+get_or_map f (x ∷ l) (suc i) a b h = get_or_map f l i a b (omega arith)
 
 pub length_count : (n a : ℕ) → length (numbers_from n a) ≡ n
 length_count zero a = refl
 length_count (suc n) a = ap suc (length_count n (suc a))
 
-pub get_d_count : (n a i d : ℕ) → i < n → get_or (numbers_from n a) i d ≡ a + i
-get_d_count zero a i d h = absurd (omega arith)
-get_d_count (suc n) a zero d h = omega arith
-get_d_count (suc n) a (suc i) d h = get_d_count n (suc a) i d (omega arith) ∙ omega arith
+pub get_or_count : (n a i d : ℕ) → i < n → get_or (numbers_from n a) i d ≡ a + i
+get_or_count zero a i d h = absurd (omega arith)
+get_or_count (suc n) a zero d h = omega arith
+get_or_count (suc n) a (suc i) d h = get_or_count n (suc a) i d (omega arith) ∙ omega arith
 
 pub apart_places : {A : Type 0} (R : A → A → Type 0) (irr : (a : A) → R a a → ⊥) (d : A) (xs : List A) → Ascending R xs → (i j : ℕ) → i < j → j < length xs → get_or xs i d ≢ get_or xs j d
 apart_places R irr d [] h i j l k e = omega arith
@@ -224,5 +224,5 @@ map_same (x ∷ xs) = ap (λ ys. x ∷ ys) (map_same xs)
 pub length_made : {A : Type 0} (f : ℕ → A) (n : ℕ) → length (map f (numbers_from n 0)) ≡ n
 length_made f n = length-map (numbers_from n 0) f ∙ length_count n 0
 
-pub get_d_made : {A : Type 0} (f : ℕ → A) (d : A) (n i : ℕ) → i < n → get_or (map f (numbers_from n 0)) i d ≡ f i
-get_d_made f d n i l = get_d_map f (numbers_from n 0) i 0 d (omega (arith, length_count n 0)) ∙ ap f (get_d_count n 0 i 0 l ∙ omega arith)
+pub get_or_made : {A : Type 0} (f : ℕ → A) (d : A) (n i : ℕ) → i < n → get_or (map f (numbers_from n 0)) i d ≡ f i
+get_or_made f d n i l = get_or_map f (numbers_from n 0) i 0 d (omega (arith, length_count n 0)) ∙ ap f (get_or_count n 0 i 0 l ∙ omega arith)

@@ -9,7 +9,7 @@ use native.Mathlib.Omega.{arith}
 use lib.ListN.{length, get_or, length-map}
 use Rattle.graph.specs.Graph.{around, Distance, Ring, ShortestPathRing}
 use Rattle.graph.specs.Writing.{Onwards, Backwards, RingReading}
-use Rattle.graph.proofs.Lists.{get_d_map}
+use Rattle.graph.proofs.Lists.{get_or_map}
 use Rattle.graph.proofs.Distances.{distance_back}
 use Rattle.graph.proofs.Rings.{ring_by_distances}
 
@@ -262,7 +262,7 @@ reading_map f a b r s R = record { alike = length-map s f ∙ R.alike ∙ sym e;
     e = length-map r f
 
     at : (i q : ℕ) → i < length r → q < length r → get_or s i a ≡ get_or r q a → get_or (map f s) i b ≡ get_or (map f r) q b
-    at i q l k h = get_d_map f s i a b (omega (arith, R.alike)) ∙ ap f h ∙ sym (get_d_map f r q a b k)
+    at i q l k h = get_or_map f s i a b (omega (arith, R.alike)) ∙ ap f h ∙ sym (get_or_map f r q a b k)
 
     go : Onwards a r s R.start ⊎ Backwards a r s R.start → Onwards b (map f r) (map f s) R.start ⊎ Backwards b (map f r) (map f s) R.start
     go (inl h) = inl (λ i l. rw e (at i ((R.start + i) % length r) (omega (arith, e)) (mod-lt (R.start + i) (omega (arith, e))) (h i (omega (arith, e)))))

@@ -9,7 +9,7 @@ use lib.ListN.{length, get_or, length-map}
 use Rattle.graph.specs.Graph.{around, Walk, Distance, ShortestPathRing}
 use Rattle.graph.specs.Listing.{Before, Listing, Listed}
 use Rattle.graph.specs.Carried.{Renaming}
-use Rattle.graph.proofs.Lists.{get_d_map, map_same}
+use Rattle.graph.proofs.Lists.{get_or_map, map_same}
 use Rattle.graph.proofs.Distances.{nearest_of, distance_of}
 use Rattle.graph.proofs.Rings.{ring_by_distances}
 
@@ -44,7 +44,7 @@ module _ {A B : Type 0} {Bonded : A → A → Type 0} {Bonded' : B → B → Typ
       far i j l k =
           let e = length-map r f in
           let k' : j < length r = omega arith in
-          rw (e, get_d_map f r i o o' (omega arith), get_d_map f r j o o' k') (distance_there (get_or r i o) (get_or r j o) (around (length r) (j - i)) (same i (omega arith)) (same j k') (h.shortest i j l k'))
+          rw (e, get_or_map f r i o o' (omega arith), get_or_map f r j o o' k') (distance_there (get_or r i o) (get_or r j o) (around (length r) (j - i)) (same i (omega arith)) (same j k') (h.shortest i j l k'))
 
 -- the same bonds, said in another way
 module _ {A : Type 0} {Bonded Bonded' : A → A → Type 0} (same : (x y : A) → Bonded x y ↔ Bonded' x y) where

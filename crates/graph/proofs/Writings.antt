@@ -12,7 +12,7 @@ use Rattle.graph.specs.Lists.{numbers_from}
 use Rattle.graph.specs.Graph.{Ring}
 use Rattle.graph.specs.Standing.{OneEach}
 use Rattle.graph.specs.Writing.{Onwards, Backwards, RingReading, OneWriting}
-use Rattle.graph.proofs.Lists.{length_made, get_d_made}
+use Rattle.graph.proofs.Lists.{length_made, get_or_made}
 use Rattle.graph.proofs.Readings.{Wrapped, wrap, wrapped, reaches, reading_self, reading_shortest, reading_back}
 
 -- of the least numbers of a list, one stands at a place
@@ -165,7 +165,7 @@ read_length r q = length_made (λ i. get_or r (q i) 0) (length r)
 
 read_at : (r : List ℕ) (q : ℕ → ℕ) (i : ℕ) → i < length r → get_or (read r q) i 0 ≡ get_or r (q i) 0
 unfolding read
-read_at r q i l = get_d_made (λ i. get_or r (q i) 0) 0 (length r) i l
+read_at r q i l = get_or_made (λ i. get_or r (q i) 0) 0 (length r) i l
 
 pub writing_exists : (r : List ℕ) → 3 ≤ length r → ((i j : ℕ) → i < j → j < length r → get_or r i 0 ≢ get_or r j 0) → (s : List ℕ) × RingReading 0 r s × OneWriting s
 writing_exists r h d = go (dec_lt (get_or r ((m + 1) % length r) 0) (get_or r ((m + (length r - 1)) % length r) 0))

@@ -2,10 +2,10 @@
 -- list has: a ring's length, or how many of its atoms are of a kind.
 --
 --   having mark k xs     how many members of xs have the mark k
---   sum_of f xs           the number f of each member, added up
---   of_length k rings     how many of the rings have k vertices
---   lengths_of rings      the lengths of the rings, added up
---   words_of rings        the words that a list of rings of atoms takes: each ring its length, then its atoms
+--   sum_of f xs          the number f of each member, added up
+--   of_length k rings    how many of the rings have k vertices
+--   lengths_of rings     the lengths of the rings, added up
+--   words_of rings       the words that a list of rings of atoms takes: each ring its length, then its atoms
 use Rattle.std.specs.Prelude.{List, [], ◌∷◌, ℕ, suc, ◌+◌, eqb, length}
 use Rattle.graph.specs.Lists.{keep}
 

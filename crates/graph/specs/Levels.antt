@@ -4,7 +4,7 @@
 --   once eq xs                each member once
 --   spread eq adj xs          what is bonded to a member of xs, each once
 --   levels eq adj n xs        the ends of walks from xs of 0, 1, .., n - 1 bonds
---   walk_ends eq adj n xs      the ends of walks from xs of n bonds
+--   walk_ends eq adj n xs     the ends of walks from xs of n bonds
 --   hit eq far ls d y         the number, counted from d, of the first of the levels ls that holds y; far if none does
 use Rattle.std.specs.Prelude.{Bool, true, false, ◌||◌, not, List, [], ◌∷◌, ℕ, zero, suc}
 use Rattle.graph.specs.Lists.{gather, cons_if}

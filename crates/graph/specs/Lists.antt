@@ -1,12 +1,12 @@
 -- Lists.
 --
---   x ∈ xs           x is a member of xs
---   Ascending R xs   each member stands in R to every later one
---   gather f xs      f's lists for all members of xs, one after another
+--   x ∈ xs            x is a member of xs
+--   Ascending R xs    each member stands in R to every later one
+--   gather f xs       f's lists for all members of xs, one after another
 --   cons_if b x xs    x before xs where b is true, else xs
---   keep p xs        the members that pass the test p, in order
+--   keep p xs         the members that pass the test p, in order
 --   numbers_from n a  the n numbers from a on
---   every p xs       whether every member passes the test p
+--   every p xs        whether every member passes the test p
 use Rattle.std.specs.Prelude.{Bool, true, false, ◌&&◌, ℕ, zero, suc}
 use mathlib.Core.List.{List, [], ◌∷◌, ◌++◌, Memᴰ}
 

@@ -1,13 +1,13 @@
 -- The list of rings computed depth first over a table of distances (document 001, VI B).
 --
 --   grow next m p            every way to lengthen the path p by m vertices, where `next q` lists what may follow q
---   at_ring_distances dist k p v    v, put after p, is at the distances of a ring of k from every vertex of p
+--   at_ring_distances dist k p v  v, put after p, is at the distances of a ring of k from every vertex of p
 --   following .. k p         what may follow p on a ring of k
 --   rings .. k               the rings of k vertices
---   rings_within .. limit     the rings of 3 to limit vertices
---   in_writing k p v          v, put after p, keeps to the one writing of a ring of k
---   distance_row far atoms ls    for each of these atoms the number of the first of the levels ls that holds it; far if none does
---   distance_table far cap size adj    a row of distances for each of `size` atoms, by levels: right as far as cap, far beyond
+--   rings_within .. limit    the rings of 3 to limit vertices
+--   in_writing k p v         v, put after p, keeps to the one writing of a ring of k
+--   distance_row far atoms ls   for each of these atoms the number of the first of the levels ls that holds it; far if none does
+--   distance_table far cap size adj   a row of distances for each of `size` atoms, by levels: right as far as cap, far beyond
 --   look far t x y           the entry of such a table
 use Rattle.std.specs.Prelude.{Bool, true, ◌&&◌, ◌||◌, not, List, [], ◌∷◌, ◌++◌, map, ℕ, zero, suc, ◌-◌, eqb, ltb, length, get_or}
 use Rattle.graph.specs.Lists.{gather, keep, numbers_from}

@@ -1,22 +1,33 @@
 // The bytes of a reader, in a lent buffer.
 #![tactic(auto)]
 
-ghost use Rattle.std.specs.Prelude.{◌≤◌, length};
+ghost use Rattle.std.specs.Prelude.{◌≡◌, ◌⊎◌, ◌≤◌, length, take, OnOk};
+ghost use Rattle.std.specs.Io.KnownBytes.{Consumes, IsAtEnd};
 
-use std::io::Read;
+use std::io;
+use std::io::{Error, ErrorKind, Read};
 
-// Reads until the buffer is full or nothing more comes, and answers how many bytes came. A read that fails ends it, as the end of
-// the input does.
-pub fn read_full(reader: &mut impl Read, bytes: &mut [u8]) -> usize
-    ensures { result ≤ length bytes.new }
+// Reads until the buffer is full or nothing more comes, and answers how many bytes came; or until a read fails, which it answers beside
+// the bytes that came before. A read that a signal interrupts is made again.
+pub fn read_full<R: Read>(reader: &mut R, bytes: &mut [u8]) -> (usize, io::Result<()>)
+    ensures within { result.0 ≤ length bytes.new }
+    ensures consumed { Consumes (R.remaining reader.old) (R.remaining reader.new) (take result.0 bytes.new) }
+    ensures whole { OnOk result.1 ((result.0 ≡ length bytes.new) ⊎ IsAtEnd (R.remaining reader.new)) }
 {
     let mut got = 0;
-    while got < bytes.len() {
-        let more = reader.read(&mut bytes[got..]).unwrap_or(0);
-        if more == 0 {
-            return got;
+    for _ in 0..u64::MAX {
+        if got >= bytes.len() {
+            return (got, Ok(()));
         }
-        got += more;
+        match reader.read(&mut bytes[got..]) {
+            Ok(0) => return (got, Ok(())),
+            Ok(more) => got += more,
+            Err(error) => {
+                if error.kind() != ErrorKind::Interrupted {
+                    return (got, Err(error));
+                }
+            }
+        }
     }
-    got
+    (got, Err(Error::from(ErrorKind::Interrupted)))
 }

@@ -7,7 +7,7 @@ use std::io::Write;
 
 fn main(rt: HostRuntime) -> io::Result<()> {
     let mut file = [0u8; report::MOLFILE];
-    let got = input::read_full(&mut rt.stdin(), &mut file);
+    let (got, _ended) = input::read_full(&mut rt.stdin(), &mut file);
     let mut out = [0u8; report::TEXT];
     let bytes = report::respond_molfile(&file[..got], &mut out);
     rt.stdout().write_all(&out[..bytes])

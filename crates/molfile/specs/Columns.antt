@@ -1,14 +1,14 @@
 -- The columns of a line (document 02, request 1): a number is three columns, blanks followed by at least one digit, to their end.
 -- Columns are bytes, and the first is column 0.
 --
---   blank, zero_digit, nine_digit    the bytes of a blank and of the digits 0 and 9
---   is_digit b            whether a byte is a digit
---   all_digits bytes      whether all bytes are digits
---   is_number bytes       whether the bytes are blanks, then at least one digit, to the end
+--   blank, zero_digit, nine_digit  the bytes of a blank and of the digits 0 and 9
+--   is_digit b           whether a byte is a digit
+--   all_digits bytes     whether all bytes are digits
+--   is_number bytes      whether the bytes are blanks, then at least one digit, to the end
 --   worth v bytes        the number that the bytes continue, where what stands before them is worth v; a blank is worth 0
 --   columns line i       the three columns from i on
---   number_at line i      whether they are a number
---   value_at line i       the number
+--   number_at line i     whether they are a number
+--   value_at line i      the number
 use Rattle.std.specs.Prelude.{Bool, true, false, cond, ◌&&◌, List, [], ◌∷◌, ℕ, ◌+◌, ◌-◌, ◌*◌, eqb, leb, get_or}
 
 abbrev pub blank : ℕ

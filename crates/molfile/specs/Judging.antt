@@ -1,17 +1,17 @@
 -- How a molfile is judged (document 02, request 1): 29, 30, 31 for header and counts line, 22, 25, 29 for a missing atom line; then bond by bond
 -- 29, 31, 32, 27. A line that is missing has no columns.
 --
---   has_version line             whether "V2000" stands in its columns
+--   has_version line            whether "V2000" stands in its columns
 --   nothing bytes               whether there are none
---   two_numbers line             whether both number columns of a line are numbers
---   counts_fault rest room       the first of 29, 30, 31, 22, 25 and 29, or 0, where `rest` stands from the counts line on and the table lent has
+--   two_numbers line            whether both number columns of a line are numbers
+--   counts_fault rest room      the first of 29, 30, 31, 22, 25 and 29, or 0, where `rest` stands from the counts line on and the table lent has
 --                               `room` words. Where a header line is missing, so is the counts line; where an atom line is, so is the last.
---   pair_of line k               the bond of bond line k, where `line` gives the bond lines: its atoms, numbered from 0
+--   pair_of line k              the bond of bond line k, where `line` gives the bond lines: its atoms, numbered from 0
 --   outside n v                 whether v, numbered from 1, is no atom of a model of n
---   pair_seen bond k             whether a bond of number below k has the pair of bond k, either way round
---   pair_fault n line k          29, 31, 32 or 27 at bond k, or 0
---   molfile_verdict file room    the answer
---   molfile_value file code      the value that goes with it: the atom count at 22, otherwise 0
+--   pair_seen bond k            whether a bond of number below k has the pair of bond k, either way round
+--   pair_fault n line k         29, 31, 32 or 27 at bond k, or 0
+--   molfile_verdict file room   the answer
+--   molfile_value file code     the value that goes with it: the atom count at 22, otherwise 0
 --   MolfileOutcome file before after r    what comes of reading a molfile
 use Rattle.std.specs.Prelude.{Bool, cond, not, ◌&&◌, ◌||◌, List, ℕ, ◌+◌, ◌-◌, ◌*◌, eqb, leb, ltb, ℤ, pos, length, get_or}
 use Rattle.graph.specs.Levels.{elem}

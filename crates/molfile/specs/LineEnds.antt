@@ -1,7 +1,7 @@
 -- The two ends of a line (document 02, request 1): with LF for CR LF a file has the same lines. A file may have both ends. The condition is that no
 -- CR CR LF stands in it: of this the last CR is left out, and the other, which was a byte of the line, would then begin a new line end.
 --
---   without_returns file    the file with LF for CR LF: each CR directly before an LF is left out
+--   without_returns file   the file with LF for CR LF: each CR directly before an LF is left out
 --   NoTwoReturns file      no CR CR LF stands in the file
 use Rattle.std.specs.Prelude.{◌≡◌, cond, ◌&&◌, List, [], ◌∷◌, ℕ, ◌+◌, eqb, get_or}
 use Rattle.molfile.specs.Lines.{line_feed, carriage_return}

@@ -1,11 +1,11 @@
 -- The lines of a file (document 02, request 1): a line ends in LF or CR LF; the last may lack its end, and nothing after a line end is no line.
 --
---   line_feed, carriage_return    the bytes LF and CR
---   ends_here b rest             whether a line's end begins with byte b, where `rest` comes after it: LF, or CR directly before LF
---   line_of bytes                the line that the bytes begin with, without its end
---   past_line bytes              what comes after that line and its end
---   from_line file k             what stands in a file from line k on; the first is line 0
---   line_at file k               line k
+--   line_feed, carriage_return  the bytes LF and CR
+--   ends_here b rest            whether a line's end begins with byte b, where `rest` comes after it: LF, or CR directly before LF
+--   line_of bytes               the line that the bytes begin with, without its end
+--   past_line bytes             what comes after that line and its end
+--   from_line file k            what stands in a file from line k on; the first is line 0
+--   line_at file k              line k
 --   MissingLine file k          there is no line k: nothing stands from it on
 --   Begins file from bytes r    r is the byte at which `bytes` begin that stand in the file after byte `from`; it is `from` where the file ends before
 use Rattle.std.specs.Prelude.{◌≡◌, Bool, cond, ◌&&◌, ◌||◌, List, [], ◌∷◌, ℕ, zero, suc, ◌≤◌, eqb, length, get_or, drop}

@@ -1,18 +1,18 @@
 -- The V2000 connection table (document 02, request 1): three header lines, a counts line, a line for each atom, a line for each bond. Coordinates,
 -- bond types and all after the bond lines are skipped.
 --
---   counts_line              the number of the counts line: it comes after three header lines
+--   counts_line               the number of the counts line: it comes after three header lines
 --   counts_width, bond_width  the columns that a counts line has, and a bond line
 --   first_at, second_at       where the two numbers of a line stand: atoms and bonds in the counts line, a bond's two atoms in a bond line
 --   version_mark, version_at  "V2000", and where it stands
---   counts_in file           the counts line
+--   counts_in file            the counts line
 --   atom_count, bond_count    its numbers of atoms and of bonds
---   after_atoms file         what stands after the atom lines
---   bond_line file k         the line of bond k
---   HasPair line x y        a bond line has the pair of the atoms x and y, either way round: atoms are numbered from 1 there
---   Paired file x y         some bond line has the pair
---   MolfileOf file n bonds  the file is one of n atoms and these bonds: as many as its counts line says, and x and y are two atoms of a bond
---                           exactly when some bond line has the pair
+--   after_atoms file          what stands after the atom lines
+--   bond_line file k          the line of bond k
+--   HasPair line x y          a bond line has the pair of the atoms x and y, either way round: atoms are numbered from 1 there
+--   Paired file x y           some bond line has the pair
+--   MolfileOf file n bonds    the file is one of n atoms and these bonds: as many as its counts line says, and x and y are two atoms of a bond
+--                             exactly when some bond line has the pair
 use Rattle.std.specs.Prelude.{◌≡◌, ◌⊎◌, ◌↔◌, List, [], ◌∷◌, ℕ, suc, ◌+◌, ◌<◌, length}
 use Rattle.bonds.specs.Bonds.{Bond, Joined}
 use Rattle.molfile.specs.Lines.{from_line, line_at}

@@ -2,14 +2,14 @@
 --
 --   lesser a b, greater a b the lesser and the greater of two numbers
 --   inserted y ws           y put in its order into an ascending list: at each member the lesser stays, and the greater is carried on
---   risen_on ws ys           the members of ys, one after the other, put into ws
---   held_row ys              the row of an atom with these partners: they ascend, then come free places
+--   risen_on ws ys          the members of ys, one after the other, put into ws
+--   held_row ys             the row of an atom with these partners: they ascend, then come free places
 --   Held rows bonds         the rows hold these bonds
---   inserted_at rows i k y      the rows with y put in its order into the k words from i on
---   with_bond rows x y       the rows with a bond of x and y more
---   full_row rows x          whether row x has no free place
---   held_fault n v w rows    32 or 27 of a bond of the atoms v and w, numbered from 1, or 0, where the rows hold the bonds before it
---   rows_fault n line rows   29, 31, 32 or 27 of a bond line, or 0, where they do
+--   inserted_at rows i k y     the rows with y put in its order into the k words from i on
+--   with_bond rows x y      the rows with a bond of x and y more
+--   full_row rows x         whether row x has no free place
+--   held_fault n v w rows   32 or 27 of a bond of the atoms v and w, numbered from 1, or 0, where the rows hold the bonds before it
+--   rows_fault n line rows  29, 31, 32 or 27 of a bond line, or 0, where they do
 --   PairsJudged n rest m rows a    what comes of reading the m bond lines that `rest` begins with: the answer, and, where there is no fault, rows
 --                           that hold their bonds
 use Rattle.std.specs.Prelude.{◌≡◌, Bool, cond, not, ◌||◌, List, [], ◌∷◌, ◌++◌, ℕ, zero, suc, ◌+◌, ◌-◌, ◌*◌, ◌<◌, eqb, ltb, length, get_or, set, replicate}

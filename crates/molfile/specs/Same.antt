@@ -1,6 +1,6 @@
 -- Molfiles that say the same.
 --
---   lines_read file             how many lines of a file are read: the header lines, the counts line, the atom lines and the bond lines
+--   lines_read file            how many lines of a file are read: the header lines, the counts line, the atom lines and the bond lines
 --   SameLines file other       both have the same lines, as far as the lines of `file` are read
 --   WholeLines k bytes         the bytes hold k lines with their ends: from each of these on there is an LF
 --   SameNumbers line more      two bond lines have the same two numbers, in this order or exchanged

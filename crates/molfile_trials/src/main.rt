@@ -9,6 +9,6 @@ use std::io;
 
 fn main(rt: HostRuntime) -> io::Result<()> {
     let mut bytes = [0u8; 16384];
-    let got = input::read_full(&mut rt.stdin(), &mut bytes);
+    let (got, _ended) = input::read_full(&mut rt.stdin(), &mut bytes);
     cases::run(&rt, &bytes[..got])
 }

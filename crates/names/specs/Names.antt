@@ -1,8 +1,8 @@
 -- New numbers for atoms: word i of `names` is the new number of atom i (document 01, "What an accepted call says").
 --
---   name names x                  the new number of atom x
---   OneToOne n names              a renumbering of n atoms: n names, each below n, no two equal
---   BadName n names i             18 at place i: its name is not below n, or was seen earlier
+--   name names x                   the new number of atom x
+--   OneToOne n names               a renumbering of n atoms: n names, each below n, no two equal
+--   BadName n names i              18 at place i: its name is not below n, or was seen earlier
 --   name_seen names w k j          whether w is among the k names from place j on
 --   bad_name n names i             the same as BadName, computed
 --   name_faults n names k i later  18 at the first bad name among the k from place i on, else what comes later

@@ -1,6 +1,6 @@
 -- The maxima of a network (document 01, "The network"): the constants of the type `Network` are these.
 --
---   atoms_most    the most atoms
+--   atoms_most   the most atoms
 --   places       the places in a row
 --   free         the word of a free place
 use Rattle.std.specs.Prelude.{ℕ}

@@ -1,24 +1,24 @@
 -- What a validator says of a table: the first fault, in the order of the numbered refusals (document 01).
 -- Word i of a table stands in row i / 8, at place i % 8.
 --
---   answer code row place       the answer with these numbers
---   accepted                    0 0 0
---   refusal code                a refusal that names no place
---   check code bad later        one check of a call: refusal `code` where it is bad, else what comes later
+--   answer code row place        the answer with these numbers
+--   accepted                     0 0 0
+--   refusal code                 a refusal that names no place
+--   check code bad later         one check of a call: refusal `code` where it is bad, else what comes later
 --   not_atoms n                  n is no number of atoms: 1 to 250
---   atoms_or_none n               n, or 0 where n is no number of atoms
+--   atoms_or_none n              n, or 0 where n is no number of atoms
 --   not_long t m                 t has not m words
---   sizes n t between later     the checks that every call with a table begins with: 1, what is checked between, 4, and what comes later
---   later_in_row i b              word i has a word before it in its row, and b holds
+--   sizes n t between later      the checks that every call with a table begins with: 1, what is checked between, 4, and what comes later
+--   later_in_row i b             word i has a word before it in its row, and b holds
 --   place_fault n t i            7 to 10: the fault of word i alone, or 0
---   WordsBelow n t              each neighbour is an atom: below n
---   stands t x y k p            x stands at one of the k places of row y from p on
+--   WordsBelow n t               each neighbour is an atom: below n
+--   stands t x y k p             x stands at one of the k places of row y from p on
 --   in_row t x y                 x stands in row y, and the table has that row
 --   bond_fault t i               11: word i is a neighbour in whose row the number of word i's own row does not stand; else 0
 --   or_else c i later            fault c at word i; where c is 0 there is none, and what comes later decides
 --   first_fault fault k i later  the first fault among the k words from i on, else what comes later
---   faults n t later            7 to 11 over the whole table, 11 only where no word has another fault
---   verdict n t                 1, 4, then 7 to 11
+--   faults n t later             7 to 11 over the whole table, 11 only where no word has another fault
+--   verdict n t                  1, 4, then 7 to 11
 use Rattle.std.specs.Prelude.{◌≡◌, List, Bool, true, false, cond, not, ◌&&◌, ℕ, zero, suc, ◌+◌, ◌-◌, ◌*◌, ◌/◌, ◌%◌, ◌<◌, eqb, leb, ltb, length, get_or}
 use Rattle.network.specs.declared.Answer.{Answer}
 use Rattle.network.specs.Maxima.{atoms_most, places, free}

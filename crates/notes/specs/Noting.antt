@@ -5,10 +5,10 @@
 --   state found words    the state with these
 --   wrote size told ring s    a ring is counted, with the words that it takes, and written where it fits
 --   note size told a ring s    a ring is noted, unless the allowance a is used up
---   note_all size told a rings s    one after another
+--   note_all size told a rings s   one after another
 --   none                 nothing found yet
 --   Fits f               the words taken are at most a longest ring's for each ring
---   note_fit a ring s     a ring of atoms is noted, where it is not too long and what was found fits; else nothing changes
+--   note_fit a ring s    a ring of atoms is noted, where it is not too long and what was found fits; else nothing changes
 use Rattle.std.specs.Prelude.{ℕ, ◌+◌, ◌*◌, ◌≤◌, true, false, cond, List, [], ◌∷◌, length, ltb}
 use Rattle.std.proofs.lemmas.List.Edits.{sets}
 use Rattle.ring.specs.Maxima.{ring_most}

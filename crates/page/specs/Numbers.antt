@@ -1,9 +1,9 @@
 -- Numbers in decimal, as bytes.
 --
 --   digits left n          the decimal digits of n, at most `left` of them
---   digits_most             the most digits of a number of the machine
+--   digits_most            the most digits of a number of the machine
 --   number n               n in decimal
---   value_of v ds           the number that the digits ds spell after v
+--   value_of v ds          the number that the digits ds spell after v
 use Rattle.std.specs.Prelude.{cond, List, [], ◌∷◌, ◌++◌, ℕ, zero, suc, ◌+◌, ◌-◌, ◌*◌, ◌/◌, ◌%◌, ltb}
 
 -- 48 is the digit 0

@@ -1,9 +1,9 @@
 -- A byte buffer on which a text is written.
 --
 --   Page, page pen bytes    the buffer with the pen over it
---   first_pen            the pen at the first byte
+--   first_pen           the pen at the first byte
 --   put b s             the byte b is written at the pen, where there is room and nothing was left out before
---   put_all bs s         the bytes bs, one after another
+--   put_all bs s        the bytes bs, one after another
 use Rattle.std.specs.Prelude.{true, false, cond, List, [], ◌∷◌, ℕ, ◌+◌, ltb, length, set}
 use Rattle.page.specs.declared.Pen.{Pen}
 

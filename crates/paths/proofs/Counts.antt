@@ -10,7 +10,7 @@ use lib.ListN.{length, get_or, set, replicate, length-set, length-map}
 use lib.Seq.{ext_get_or, get_or-set_same, get_or-set_other}
 use borrow.Author.Tests.{eq-eqb, ne_eqb}
 use Rattle.graph.specs.Lists.{◌∈◌, numbers_from}
-use Rattle.graph.proofs.Lists.{get_d_map, length_count, get_d_count}
+use Rattle.graph.proofs.Lists.{get_or_map, length_count, get_or_count}
 use Rattle.ring.specs.Maxima.{ring_least, ring_most}
 use Rattle.graph.specs.Counts.{of_length, lengths_of}
 use Rattle.census.specs.Census.{counts_by, counts_of}
@@ -58,8 +58,8 @@ counts_long xs = length-map (numbers_from (ring_most + 1) 0) (λ k. of_length k 
 pub count_at : (xs : List (List ℕ)) (k : ℕ) → k ≤ ring_most → get_or (counts_of xs) k 0 ≡ of_length k xs
 unfolding counts_by
 count_at xs k l =
-    get_d_map (λ k. of_length k xs) (numbers_from (ring_most + 1) 0) k 0 0 (omega (arith, length_count (ring_most + 1) 0))
-    ∙ ap (λ m. of_length m xs) (get_d_count (ring_most + 1) 0 k 0 (omega arith) ∙ omega arith)
+    get_or_map (λ k. of_length k xs) (numbers_from (ring_most + 1) 0) k 0 0 (omega (arith, length_count (ring_most + 1) 0))
+    ∙ ap (λ m. of_length m xs) (get_or_count (ring_most + 1) 0 k 0 (omega arith) ∙ omega arith)
 
 counts_none : replicate (ring_most + 1) 0 ≡ counts_of []
 unfolding counts_by

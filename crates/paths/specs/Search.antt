@@ -1,24 +1,24 @@
 -- The search for rings over a table of bonds and a buffer of distances, as functions on lists.
 --
---   all_below n f            f holds at each number below n
---   gather_below n f         f 0, then f 1, and so on up to f (n - 1), one list after another
---   pair_fits n dist k path at y i     y, put at place `at` of a ring of k, is as far from the path's atom at place i as the ring says
---   fits_before .. many at y           and so from each of the first `many` atoms
---   every_pair n dist k ring           every pair of a whole path fits
---   is_ring n dist k ring              a whole path, the first atom its smallest, is the one writing of a shortest-path ring
+--   all_below n f           f holds at each number below n
+--   gather_below n f        f 0, then f 1, and so on up to f (n - 1), one list after another
+--   pair_fits n dist k path at y i    y, put at place `at` of a ring of k, is as far from the path's atom at place i as the ring says
+--   fits_before .. many at y          and so from each of the first `many` atoms
+--   every_pair n dist k ring          every pair of a whole path fits
+--   is_ring n dist k ring             a whole path, the first atom its smallest, is the one writing of a shortest-path ring
 --   Test                    a test that turns back: whether a ring may begin with the path and the atom after it
 --   Tests                   such a test for each number of atoms, buffer of distances and length
 --   follows may path a      a is above the path's first atom, and passes the test
---   next_word table path i   what stands at place i of the row of the path's last atom
---   goes_on .. path i        that place holds an atom that may follow
+--   next_word table path i  what stands at place i of the row of the path's last atom
+--   goes_on .. path i       that place holds an atom that may follow
 --   ended .. path           a whole path, if it is a ring
 --   extend .. left path     every ring of k atoms that begins with the path, which lacks `left` atoms, in order
 --   branch .. left path i   those that go on with place i of the last atom's row, after which `left` atoms are lacking
---   rings_from .. k a        every ring of k atoms whose first is a
---   rings_of .. k            every ring of k atoms
---   rings_up_to .. m          every ring of the m least lengths, shorter ones first
---   counts_up_to .. m         how many there are of each length: a count for each length from 0 on, of which those of the m least are filled in
---   lengths_up_to .. m        their lengths, added up: each of the m least lengths as often as there are rings of it
+--   rings_from .. k a       every ring of k atoms whose first is a
+--   rings_of .. k           every ring of k atoms
+--   rings_up_to .. m        every ring of the m least lengths, shorter ones first
+--   counts_up_to .. m       how many there are of each length: a count for each length from 0 on, of which those of the m least are filled in
+--   lengths_up_to .. m      their lengths, added up: each of the m least lengths as often as there are rings of it
 use Rattle.std.specs.Prelude.{ℕ, zero, suc, ◌+◌, ◌-◌, ◌*◌, Bool, true, ◌&&◌, cond, List, [], ◌∷◌, ◌++◌, length, get_or, set, replicate, eqb, ltb}
 use Rattle.graph.specs.Graph.{around}
 use Rattle.network.specs.Maxima.{places}

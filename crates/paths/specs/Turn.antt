@@ -1,12 +1,12 @@
 -- Where the search turns back.
 --
---   any_below n f                   f holds at some number below n
+--   any_below n f                  f holds at some number below n
 --   antipodes n dist k path a      a next on the path fits the atoms across the ring from it, as far as they are placed: one where k is even, two where it is odd
---   last_above k path a             a is above the second atom, if its place is the last
+--   last_above k path a            a is above the second atom, if its place is the last
 --   reaches n dist k path a y      with a next on the path, y fits at the place just past half the ring
 --   seen n dist k path a y         y fits so, and is above the path's first atom
---   look_ahead n dist k path a      some atom is seen, where the path ends before that place
---   may_follow n dist k path a      the test: a fits the first atom and those across; it closes the ring the right way; and something can stand across
+--   look_ahead n dist k path a     some atom is seen, where the path ends before that place
+--   may_follow n dist k path a     the test: a fits the first atom and those across; it closes the ring the right way; and something can stand across
 --   stood n dist k path y          y is above the path's first atom, and fits at the place just past half the ring
 --   Hint n dist k path from        a look ahead from the path may start at `from`: no atom below can stand at that place
 --   Looks test n dist k path r     an answer to a test: 0 for no; any other is yes, and where the next look ahead may start

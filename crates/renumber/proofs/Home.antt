@@ -7,7 +7,7 @@ use native.Mathlib.Decide.{ℕ_discrete}
 use lib.ListN.{length, length-map}
 use borrow.Author.Tests.{eq-eqb, ne_eqb}
 use Rattle.graph.specs.Lists.{numbers_from}
-use Rattle.graph.proofs.Lists.{get_d_map, length_count, get_d_count}
+use Rattle.graph.proofs.Lists.{get_or_map, length_count, get_or_count}
 use Rattle.network.specs.declared.Answer.{Answer}
 use Rattle.network.specs.Maxima.{places}
 use Rattle.network.specs.Network.{Bonded, IsNetwork}
@@ -34,8 +34,8 @@ module _ (n : ℕ) (names : List ℕ) (O : OneToOne n names) where
     long = length-map (numbers_from n 0) (λ w. atom_of names w n) ∙ length_count n 0;
     undone = λ x l.
         let r = atom_of_lem names (name names x) n x l refl in
-        get_d_map (λ w. atom_of names w n) (numbers_from n 0) (name names x) 0 0 (omega (arith, length_count n 0, O.below x l))
-        ∙ ap (λ (w : ℕ). atom_of names w n) (get_d_count n 0 (name names x) 0 (O.below x l) ∙ omega arith)
+        get_or_map (λ w. atom_of names w n) (numbers_from n 0) (name names x) 0 0 (omega (arith, length_count n 0, O.below x l))
+        ∙ ap (λ (w : ℕ). atom_of names w n) (get_or_count n 0 (name names x) 0 (O.below x l) ∙ omega arith)
         ∙ same_name n names O (atom_of names (name names x) n) x r.0 l r.1;
   }
 

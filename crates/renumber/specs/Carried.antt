@@ -3,8 +3,8 @@
 --   RingsRenumbered names xs ys    the rings of ys are those of xs under their new names, each in its one writing; as many, and as many of each
 --                             length; their lengths add up to the same, and their lists take as many words
 --   Inverse n names home      the names `home` name every atom back
---   atom_of names w k          the greatest atom below k that has the name w, or 0
---   home_names n names         the names that name every atom back, computed
+--   atom_of names w k         the greatest atom below k that has the name w, or 0
+--   home_names n names        the names that name every atom back, computed
 use Rattle.std.specs.Prelude.{◌≡◌, cond, List, map, ℕ, zero, suc, ◌<◌, eqb, length}
 use Rattle.graph.specs.Lists.{numbers_from}
 use Rattle.graph.specs.Writing.{RingReading, OneWriting}

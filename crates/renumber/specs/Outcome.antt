@@ -1,6 +1,6 @@
 -- What comes of renumbering: the answer, and the lent table before and after.
 --
---   renumber_verdict n t names before    1, 4, 6, then 7 to 11, then 18
+--   renumber_verdict n t names before   1, 4, 6, then 7 to 11, then 18
 --   Renumbered n t names after          after is the table of a network in which y' stands in row x' exactly when y stands in row x of t
 --   RenumberOutcome n t names before after a    refused, not one word is changed; accepted, the table is the renumbered one
 use Rattle.std.specs.Prelude.{◌≡◌, ◌↔◌, ◌||◌, List, ℕ, ◌*◌, ◌<◌, length}

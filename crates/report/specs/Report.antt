@@ -1,12 +1,12 @@
 -- What the listing programs print for a file: a network file (document 01, "The network file") or a molfile (document 02, request 1).
 --
---   file_bytes                     the bytes of a network file that are read: one more than the greatest file has
---   molfile_bytes                  the bytes of a molfile that are read, at most: a longer one is judged by its first bytes
---   table_words                    the words of the table lent to the reader: enough for any network
---   list_words                     the words of the list buffer
---   text_bytes                     the bytes that hold any text: five for each word of the list, and the other lines
---   rings_text n bonds rings       the lines of a listing: atoms and bonds, each ring, the counts by length, the total
---   settled_text n bonds a rings   these lines, or the line of the refusal, as the answer a has it
+--   file_bytes                    the bytes of a network file that are read: one more than the greatest file has
+--   molfile_bytes                 the bytes of a molfile that are read, at most: a longer one is judged by its first bytes
+--   table_words                   the words of the table lent to the reader: enough for any network
+--   list_words                    the words of the list buffer
+--   text_bytes                    the bytes that hold any text: five for each word of the list, and the other lines
+--   rings_text n bonds rings      the lines of a listing: atoms and bonds, each ring, the counts by length, the total
+--   settled_text n bonds a rings  these lines, or the line of the refusal, as the answer a has it
 --   ListingText n bonds t text    the text of a network: of its listing at limit 0 with the greatest allowance, or of refusal 12 or 13
 --   NetworkText Gives text        the text of the network that a file gives
 --   ReadText says Gives text      the text of a file: of the reader's refusal, or of the network

@@ -3,7 +3,7 @@ use Rattle.std.proofs.Common.{◌≡◌, ℕ, ◌+◌, ◌-◌, ◌%◌, ◌<◌
 use native.Mathlib.Decide.{ℕ_discrete, dec_le, dec_lt}
 use lib.ListN.{length-replicate, get_or-replicate, get_or-append}
 use borrow.Author.Tests.{lt-leb}
-use Rattle.graph.proofs.Lists.{length_made, get_d_made}
+use Rattle.graph.proofs.Lists.{length_made, get_or_made}
 use Rattle.graph.proofs.Writings.{onwards_written, backwards_written}
 use Rattle.ring.specs.Maxima.{ring_least, ring_most}
 use Rattle.ring.specs.Writes.{padded, not_ring, length_of, ring_words, place_at, read_from, length_from, atoms_from, WritingPadded}
@@ -52,7 +52,7 @@ module _ (r : List ℕ) (start : ℕ) (onwards : Bool) where
   reading_long = length_made (λ i. get_or r (place_at (length r) start onwards i) 0) (length r)
 
   pub reading_at : (i : ℕ) → i < length r → get_or (read_from r start onwards) i 0 ≡ get_or r (place_at (length r) start onwards i) 0
-  reading_at i l = get_d_made (λ i. get_or r (place_at (length r) start onwards i) 0) 0 (length r) i l
+  reading_at i l = get_or_made (λ i. get_or r (place_at (length r) start onwards i) 0) 0 (length r) i l
 
 pub place_onwards : (k start i m : ℕ) (b : Bool) → b ≡ true → m ≡ (start + i) % k → start < k → (m ≡ place_at k start b i) × (m < k)
 unfolding place_at

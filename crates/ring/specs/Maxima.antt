@@ -1,9 +1,9 @@
 -- The maxima of rings and of their search (document 01, "The rings"): the constants of the type `Ring` are these.
 --
---   ring_least        the fewest atoms of a ring
---   ring_most         the most atoms of a ring that is searched for
---   limit_default     the limit that 0 stands for
---   allowance_most    the most rings that a search may be allowed
+--   ring_least       the fewest atoms of a ring
+--   ring_most        the most atoms of a ring that is searched for
+--   limit_default    the limit that 0 stands for
+--   allowance_most   the most rings that a search may be allowed
 use Rattle.std.specs.Prelude.{ℕ}
 
 abbrev pub ring_least : ℕ

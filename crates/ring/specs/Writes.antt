@@ -1,13 +1,13 @@
 -- A ring in the 24 words of the type `Ring`: its atoms, then zeros.
 --
 --   padded r                    the words of r, filled up with zeros
---   not_ring k                   k is not the length of a ring: 3 to 24
---   length_of k                  k, or 0 where k is no such length
---   ring_words r                 the words of r, or zeros where r is too short or too long
---   place_at k start onwards i   the place of a ring of k that is read i after the start
---   read_from r start onwards    r read from a place on, round the ring, onwards or backwards
---   length_from k start          the length of such a reading of a ring of k, or 0 where there is no such ring or place
---   atoms_from r start onwards   the words of such a reading, or zeros where there is no such ring or place
+--   not_ring k                  k is not the length of a ring: 3 to 24
+--   length_of k                 k, or 0 where k is no such length
+--   ring_words r                the words of r, or zeros where r is too short or too long
+--   place_at k start onwards i  the place of a ring of k that is read i after the start
+--   read_from r start onwards   r read from a place on, round the ring, onwards or backwards
+--   length_from k start         the length of such a reading of a ring of k, or 0 where there is no such ring or place
+--   atoms_from r start onwards  the words of such a reading, or zeros where there is no such ring or place
 --   WritingPadded r words       the words are the one writing of r, filled up with zeros
 use Rattle.std.specs.Prelude.{◌≡◌, ℕ, ◌+◌, ◌-◌, ◌%◌, Bool, true, false, cond, not, ◌&&◌, ◌||◌, List, ◌++◌, map, length, replicate, nat_le, slice_index}
 use Rattle.graph.specs.Lists.{numbers_from}

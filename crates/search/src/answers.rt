@@ -11,7 +11,7 @@ use network::Answer;
 // What an accepted call says of the rings found.
 pub fn accepted(n: usize, limit: usize, tally: Tally) -> Census
     requires counted { Counted n }
-    requires lengths_bound { tally.lengths ≤ ring_most * allowance_most }
+    requires bounded { tally.lengths ≤ ring_most * allowance_most }
     ensures { result ≡ census_with n limit tally.counts tally.found.rings tally.lengths tally.found.at }
 {
     let answer = Answer::accepted();

@@ -148,7 +148,7 @@ fn complete(
     list: &mut [u16],
 ) -> Found
     requires given { Given n dist.now k path.now k }
-    requires ring_least_le_k { (ring_least ≤ k) × Fits found }
+    requires least { (ring_least ≤ k) × Fits found }
     ensures { Notes allowance (ended n dist.now k (take k path.now)) found list.old result list.new }
 {
     if pairs::is_ring(n, dist, k, path) {
@@ -160,8 +160,8 @@ fn complete(
 
 // What stands at place i of an atom's row.
 fn place_at(n: usize, table: &[u16], atom: usize, i: usize) -> u16
-    requires table_len { (length table.now ≡ places * n) × (n ≤ atoms_most) }
-    requires atom_lt_n { (atom < n) × (i < places) }
+    requires whole { (length table.now ≡ places * n) × (n ≤ atoms_most) }
+    requires inside { (atom < n) × (i < places) }
     ensures { result ≡ word table.now atom i }
 {
     let at = atom * Network::PLACES + i;

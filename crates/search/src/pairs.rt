@@ -10,7 +10,7 @@ use ring::Ring;
 // Whether a whole path is the one writing of a shortest-path ring: every pair is tested.
 pub fn is_ring(n: usize, dist: &[u8], k: usize, path: &[u16; Ring::LENGTH]) -> bool
     requires given { Given n dist.now k path.now k }
-    requires ring_least_le_k { ring_least ≤ k }
+    requires least { ring_least ≤ k }
     ensures { result ≡ is_ring n dist.now k (take k path.now) }
 {
     let second = atom_at(n, path, k, 1);
@@ -49,7 +49,7 @@ pub fn fits_before(
     y: usize,
 ) -> bool
     requires given { Given n dist.now k path.now len }
-    requires many_le_len { (many ≤ len) × ((many ≤ at) × ((at ≤ k) × (y < n))) }
+    requires inside { (many ≤ len) × ((many ≤ at) × ((at ≤ k) × (y < n))) }
     ensures { result ≡ fits_before n dist.now k (take len path.now) many at y }
 {
     let mut i: usize = 0;
@@ -74,7 +74,7 @@ pub fn pair_fits(
     i: usize,
 ) -> bool
     requires given { Given n dist.now k path.now len }
-    requires i_lt_len { (i < len) × ((i ≤ at) × ((at ≤ k) × (y < n))) }
+    requires inside { (i < len) × ((i ≤ at) × ((at ≤ k) × (y < n))) }
     ensures { result ≡ pair_fits n dist.now k (take len path.now) at y i }
 {
     let x = atom_at(n, path, len, i);
@@ -86,7 +86,7 @@ pub fn pair_fits(
 // The atom at place i of a path of `len` atoms.
 pub fn atom_at(n: usize, path: &[u16; Ring::LENGTH], len: usize, i: usize) -> usize
     requires path_in { PathIn n path.now len }
-    requires i_lt_len { i < len }
+    requires inside { i < len }
     ensures { (result ≡ get_or (take len path.now) i 0) × (result < n) }
 {
     wide(path[i])
@@ -94,8 +94,8 @@ pub fn atom_at(n: usize, path: &[u16; Ring::LENGTH], len: usize, i: usize) -> us
 
 // The distance from a to b.
 pub fn far(n: usize, dist: &[u8], a: usize, b: usize) -> usize
-    requires dist_len { length dist.now ≡ n * n }
-    requires a_lt_n { (a < n) × (b < n) }
+    requires full { length dist.now ≡ n * n }
+    requires inside { (a < n) × (b < n) }
     ensures { result ≡ distance dist.now n a b }
 {
     let i = a * n + b;

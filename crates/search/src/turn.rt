@@ -20,7 +20,7 @@ pub fn may_follow(
     from: usize,
 ) -> usize
     requires given { Given n dist.now k path.now len }
-    requires a_lt_n { (a < n) × ((n ≤ atoms_most) × ((ring_least ≤ k) × (Hint n dist.now k (take len path.now) from))) }
+    requires inside { (a < n) × ((n ≤ atoms_most) × ((ring_least ≤ k) × (Hint n dist.now k (take len path.now) from))) }
     ensures { Looks (follows (may_follow n dist.now k) (take len path.now) a) n dist.now k (take len path.now ++ (a ∷ [])) result }
 {
     let first = pairs::atom_at(n, path, len, 0);
@@ -42,7 +42,7 @@ pub fn may_follow(
 // Whether a next on the path fits the atoms that stand across the ring from it, as far as they are placed.
 fn across(n: usize, dist: &[u8], k: usize, path: &[u16; Ring::LENGTH], len: usize, a: usize) -> bool
     requires given { Given n dist.now k path.now len }
-    requires a_lt_n { (a < n) × (0 < k / 2) }
+    requires inside { (a < n) × (0 < k / 2) }
     ensures { result ≡ antipodes n dist.now k (take len path.now) a }
 {
     let half = k / 2;
@@ -61,7 +61,7 @@ fn across(n: usize, dist: &[u8], k: usize, path: &[u16; Ring::LENGTH], len: usiz
 // Whether a is above the second atom, if its place is the last.
 fn closes(n: usize, k: usize, path: &[u16; Ring::LENGTH], len: usize, a: usize) -> bool
     requires path_in { PathIn n path.now len }
-    requires len_nonzero { (0 < len) × (ring_least ≤ k) }
+    requires begun { (0 < len) × (ring_least ≤ k) }
     ensures { result ≡ last_above k (take len path.now) a }
 {
     if len + 1 == k {
@@ -82,7 +82,7 @@ fn look_ahead(
     from: usize,
 ) -> usize
     requires given { Given n dist.now k path.now len }
-    requires a_lt_n { (a < n) × ((n ≤ atoms_most) × (Hint n dist.now k (take len path.now) from)) }
+    requires inside { (a < n) × ((n ≤ atoms_most) × (Hint n dist.now k (take len path.now) from)) }
     ensures { Looks (look_ahead n dist.now k (take len path.now) a) n dist.now k (take len path.now ++ (a ∷ [])) result }
 {
     if k / 2 < len {
@@ -102,8 +102,8 @@ fn look_ahead(
 
 // The first atom from `from` on whose distance from a is w, or n. Two at a time: the search spends much of its time here.
 fn next_at(n: usize, dist: &[u8], a: usize, w: usize, from: usize) -> usize
-    requires dist_len { length dist.now ≡ n * n }
-    requires a_lt_n { (a < n) × ((from ≤ n) × (n ≤ atoms_most)) }
+    requires full { length dist.now ≡ n * n }
+    requires inside { (a < n) × ((from ≤ n) × (n ≤ atoms_most)) }
     ensures { NextAt n dist.now a w from result }
 {
     let mut y = from;

@@ -1,18 +1,18 @@
 -- The lines of a listing, as bytes (document 01, "The network file").
 --
 --   space, newline         the bytes between numbers, and at the end of a line
---   atoms_name, bonds_name, ring_name, count_name, total_name, refused_name    the names before the numbers
---   sizes_text n bonds      the line `atoms 7 bonds 9`
---   ring_text r             the line `ring 3 3 5 6`: length and atoms
---   count_text k rings      the line `count 3 1`: a length and its number of rings; nothing where there are none
---   counts_text k cs        these lines for all of the counts cs, from length k on
---   total_text rings        the line `total 4`
---   refusal_text a          the line `refused 22 0 0`: number, row and place
---   left_after left w       the atoms of the present ring that are to come after the word w, where `left` were before it
---   end_text left           the end of the line, where no atom is to come
---   word_text left w        the word w: a length begins a line, and the last atom ends it
---   words_text left ws      the lines of a list's words ws, where `left` atoms of the present ring are to come
---   listing_text ..         a listing: atoms and bonds, the words of the list, the counts by length, the total
+--   atoms_name, bonds_name, ring_name, count_name, total_name, refused_name  the names before the numbers
+--   sizes_text n bonds     the line `atoms 7 bonds 9`
+--   ring_text r            the line `ring 3 3 5 6`: length and atoms
+--   count_text k rings     the line `count 3 1`: a length and its number of rings; nothing where there are none
+--   counts_text k cs       these lines for all of the counts cs, from length k on
+--   total_text rings       the line `total 4`
+--   refusal_text a         the line `refused 22 0 0`: number, row and place
+--   left_after left w      the atoms of the present ring that are to come after the word w, where `left` were before it
+--   end_text left          the end of the line, where no atom is to come
+--   word_text left w       the word w: a length begins a line, and the last atom ends it
+--   words_text left ws     the lines of a list's words ws, where `left` atoms of the present ring are to come
+--   listing_text ..        a listing: atoms and bonds, the words of the list, the counts by length, the total
 use Rattle.std.specs.Prelude.{cond, List, [], ◌∷◌, ◌++◌, ℕ, ◌+◌, ◌-◌, eqb, length}
 use Rattle.graph.specs.Lists.{gather}
 use Rattle.network.specs.declared.Answer.{Answer}

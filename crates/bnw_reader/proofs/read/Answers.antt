@@ -35,7 +35,7 @@ fill_table-requires c = let h = c.head_fault-code.ensures in
     let f = c.field-atoms.ensures in
     let g = c.field-bonds.ensures in
     let b = c.bond_faults-answer.ensures in
-    let t = c.args.table.now in record { bonds_in_bounds = bonds_inside _ t _ h z _ _ f.0 g.0 _ b g.2; n_in_bounds = table_fits _ t _ h z _ _ f.0 g.0 _ b g.2; by_index = bonds_eight _ t _ h z _ _ f.0 g.0 _ b g.2 c.if-answer-ne0.false }
+    let t = c.args.table.now in record { bonds_there = bonds_inside _ t _ h z _ _ f.0 g.0 _ b g.2; room = table_fits _ t _ h z _ _ f.0 g.0 _ b g.2; few = bonds_eight _ t _ h z _ _ f.0 g.0 _ b g.2 c.if-answer-ne0.false }
 
 pub returns : goal.returns
 returns c = let g = c.field-bonds.ensures in

@@ -18,10 +18,10 @@ returns-then-file-length c = search writes_short
 pub write_head-requires : goal.write_head-requires
 write_head-requires c = let e = c.validate-verdict.ensures in
     let z = c.if-verdict-ne0.false in
-    let h : length c.args.table.now ≤ places * atoms_most = few_words _ _ _ e z in record { n_le_atoms_most = (few_atoms _ _ _ e z, omega arith); head_length_in_bounds = omega arith }
+    let h : length c.args.table.now ≤ places * atoms_most = few_words _ _ _ e z in record { few = (few_atoms _ _ _ e z, omega arith); room = omega arith }
 
 pub write_bonds-requires : goal.write_bonds-requires
-write_bonds-requires c = record { table_len_bound = few_words _ _ _ c.validate-verdict.ensures c.if-verdict-ne0.false; table_in_bounds = omega arith }
+write_bonds-requires c = record { most = few_words _ _ _ c.validate-verdict.ensures c.if-verdict-ne0.false; room = omega arith }
 
 pub returns : goal.returns
 returns c = search writes_all

@@ -15,7 +15,7 @@ pub slice_bounds-write_all-end : goal.slice_bounds-write_all-end
 slice_bounds-write_all-end c = part_length _ _ (subst (λ (m : ℕ). c.respond_molfile-bytes.result ≤ m) (sym c.respond_molfile-bytes.auto.out) (responds_inside read_text_fits c.respond_molfile-bytes.ensures))
 
 pub slice_bounds-file-end : goal.slice_bounds-file-end
-slice_bounds-file-end c = c.read_full-got.ensures
+slice_bounds-file-end c = c.read_full-got.ensures.within
 
 pub slice_bounds-respond_molfile-end : goal.slice_bounds-respond_molfile-end
-slice_bounds-respond_molfile-end c = part_length _ _ c.read_full-got.ensures
+slice_bounds-respond_molfile-end c = part_length _ _ c.read_full-got.ensures.within

@@ -17,7 +17,7 @@ pub returns-then-tally : goal.returns-then-tally
 returns-then-tally c = count_12 _ _ _ _ _ _ _ c.prepare-prepared.ensures c.if-prepared-ne0.false _ c.limit_used-used.ensures _ _ _ c.each_length-tally.ensures _ _ c.if-tally.true c.refused-answer.ensures c.refused-then-tally.ensures
 
 pub accepted-requires : goal.accepted-requires
-accepted-requires c = record { counted = (passed _ _ _ _ _ _ _ c.prepare-prepared.ensures c.if-prepared-ne0.false).network.counted; lengths_bound = small _ _ _ _ _ _ _ c.prepare-prepared.ensures c.if-prepared-ne0.false _ c.limit_used-used.ensures _ _ _ c.each_length-tally.ensures c.if-tally.false }
+accepted-requires c = record { counted = (passed _ _ _ _ _ _ _ c.prepare-prepared.ensures c.if-prepared-ne0.false).network.counted; bounded = small _ _ _ _ _ _ _ c.prepare-prepared.ensures c.if-prepared-ne0.false _ c.limit_used-used.ensures _ _ _ c.each_length-tally.ensures c.if-tally.false }
 
 pub returns : goal.returns
 returns c = count_0 _ _ _ _ _ _ _ c.prepare-prepared.ensures c.if-prepared-ne0.false _ c.limit_used-used.ensures _ _ _ c.each_length-tally.ensures c.if-tally.false _ c.accepted.ensures

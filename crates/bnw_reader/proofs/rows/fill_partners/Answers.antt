@@ -13,7 +13,7 @@ unfolding partners
 loop-k-init c = (omega arith, refl, omega arith, refl)
 
 pub fill_partner-at-requires : goal.fill_partner-at-requires
-fill_partner-at-requires c = record { k_in_bounds = omega arith; k_in_bounds_2 = omega (arith, partners_fit (bond_in c.args.file.now) c.args.x c.loop-k.k c.args.bonds c.loop-k-test.true) }
+fill_partner-at-requires c = record { bond_there = omega arith; room = omega (arith, partners_fit (bond_in c.args.file.now) c.args.x c.loop-k.k c.args.bonds c.loop-k-test.true) }
 
 pub loop-k-preserved : goal.loop-k-preserved
 loop-k-preserved c = let v = c.loop-k in

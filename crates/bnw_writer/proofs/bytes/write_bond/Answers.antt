@@ -11,11 +11,11 @@ pub returns-then-bonds_at-eq0 : goal.returns-then-bonds_at-eq0
 returns-then-bonds_at-eq0 c = search (none_past, none_written)
 
 pub put_field-requires : goal.put_field-requires
-put_field-requires c = let fits : c.args.at + 3 < length c.args.file.now = bond_fits c.args.table.now c.args.file.now c.args.i c.args.at _ c.bonds_at.ensures.0 c.if-bonds_at-eq0.false c.requires.i_in_bounds_2 in
+put_field-requires c = let fits : c.args.at + 3 < length c.args.file.now = bond_fits c.args.table.now c.args.file.now c.args.i c.args.at _ c.bonds_at.ensures.0 c.if-bonds_at-eq0.false c.requires.room in
     (omega (arith, c.type_inv.table c.args.i), omega arith)
 
 pub put_field-requires-2 : goal.put_field-requires-2
-put_field-requires-2 c = let fits : c.args.at + 3 < length c.args.file.now = bond_fits c.args.table.now c.args.file.now c.args.i c.args.at _ c.bonds_at.ensures.0 c.if-bonds_at-eq0.false c.requires.i_in_bounds_2 in
+put_field-requires-2 c = let fits : c.args.at + 3 < length c.args.file.now = bond_fits c.args.table.now c.args.file.now c.args.i c.args.at _ c.bonds_at.ensures.0 c.if-bonds_at-eq0.false c.requires.room in
     (omega (arith, c.type_inv.table c.args.i), omega arith)
 
 pub returns : goal.returns

@@ -9,7 +9,7 @@ pub loop-i-init : goal.loop-i-init
 loop-i-init c = (omega arith, refl, refl, refl)
 
 pub write_bond-at-requires : goal.write_bond-at-requires
-write_bond-at-requires c = record { i_in_bounds = (c.loop-i-test.true, c.requires.table_len_bound); i_in_bounds_2 = omega (arith, bonds_fit c.args.table.now c.loop-i.i c.loop-i-test.true) }
+write_bond-at-requires c = record { there = (c.loop-i-test.true, c.requires.most); room = omega (arith, bonds_fit c.args.table.now c.loop-i.i c.loop-i-test.true) }
 
 pub loop-i-preserved : goal.loop-i-preserved
 loop-i-preserved c = let v = c.loop-i in

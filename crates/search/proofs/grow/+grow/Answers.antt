@@ -19,7 +19,7 @@ pub returns-then-found : goal.returns-then-found
 returns-then-found t c = record { result = all_over length plain _ _ _ _ c.if-found.true; words = c.requires.fits.0; kept = refl; room = refl }
 
 pub complete-requires : goal.complete-requires
-complete-requires t c = record { given = given_whole c.requires.grows c.if-left-eq0.true; ring_least_le_k = (c.requires.grows.net.least, c.requires.fits.0) }
+complete-requires t c = record { given = given_whole c.requires.grows c.if-left-eq0.true; least = (c.requires.grows.net.least, c.requires.fits.0) }
 
 pub returns-then-left-eq0 : goal.returns-then-left-eq0
 returns-then-left-eq0 t c = let g = c.complete.ensures in
@@ -32,14 +32,14 @@ pub overflow_sub-len-2 : goal.overflow_sub-len-2
 overflow_sub-len-2 t c = omega (arith, c.requires.grows.begun)
 
 pub atom_at-last-requires : goal.atom_at-last-requires
-atom_at-last-requires t c = record { path_in = c.requires.grows.atoms; i_lt_len = omega (arith, c.requires.grows.begun) }
+atom_at-last-requires t c = record { path_in = c.requires.grows.atoms; inside = omega (arith, c.requires.grows.begun) }
 
 pub loop-i-init : goal.loop-i-init
 unfolding gather_below note_all
 loop-i-init t c = (omega arith, (refl, (refl, (c.requires.fits.0, (refl, refl)))))
 
 pub place_at-a-requires : goal.place_at-a-requires
-place_at-a-requires t c = let g = c.requires.grows in record { table_len = (g.net.network.whole, g.net.network.counted.most); atom_lt_n = (c.atom_at-last.ensures.1, c.loop-i-test.true) }
+place_at-a-requires t c = let g = c.requires.grows in record { whole = (g.net.network.whole, g.net.network.counted.most); inside = (c.atom_at-last.ensures.1, c.loop-i-test.true) }
 
 pub shape_of-list-then-n-w : goal.shape_of-list-then-n-w
 shape_of-list-then-n-w t c = c.loop-i.invariant.1.0
@@ -58,7 +58,7 @@ returns-then-n-w t c = let g = c.requires.grows in
 pub may_follow-next-requires : goal.may_follow-next-requires
 may_follow-next-requires t c = let g = c.requires.grows in
     let v = c.loop-i in
-    let kept = v.invariant.1.1.1.1.0 in record { given = given_kept kept v.invariant.1.1.1.1.1 (given_of g); a_lt_n = (c.if-n-w.false, (g.net.network.counted.most, (g.net.least, hint_kept kept c.requires.fits.1))) }
+    let kept = v.invariant.1.1.1.1.0 in record { given = given_kept kept v.invariant.1.1.1.1.1 (given_of g); inside = (c.if-n-w.false, (g.net.network.counted.most, (g.net.least, hint_kept kept c.requires.fits.1))) }
 
 pub bounds-path-len : goal.bounds-path-len
 bounds-path-len t c = omega (arith, c.requires.grows.begun, c.requires.grows.net.most, c.if-left-eq0.false)

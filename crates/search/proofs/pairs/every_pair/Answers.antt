@@ -9,10 +9,10 @@ unfolding all_below
 loop-j-init c = (omega arith, refl)
 
 pub atom_at-y-requires : goal.atom_at-y-requires
-atom_at-y-requires c = record { path_in = c.requires.path; i_lt_len = c.loop-j-test.true }
+atom_at-y-requires c = record { path_in = c.requires.path; inside = c.loop-j-test.true }
 
 pub fits_before-requires : goal.fits_before-requires
-fits_before-requires c = record { given = c.requires; many_le_len = (omega arith, (omega arith, (omega arith, c.atom_at-y.ensures.1))) }
+fits_before-requires c = record { given = c.requires; inside = (omega arith, (omega arith, (omega arith, c.atom_at-y.ensures.1))) }
 
 pub returns-then-not-fits_before : goal.returns-then-not-fits_before
 unfolding every_pair

@@ -11,7 +11,7 @@ pub overflow_sub-len : goal.overflow_sub-len
 overflow_sub-len c = omega (arith, c.if-len-half.false)
 
 pub pair_fits-requires : goal.pair_fits-requires
-pair_fits-requires c = record { given = c.requires.given; i_lt_len = (omega (arith, c.requires.a_lt_n.1, c.if-len-half.false), (omega arith, (c.requires.given.within, c.requires.a_lt_n.0))) }
+pair_fits-requires c = record { given = c.requires.given; inside = (omega (arith, c.requires.inside.1, c.if-len-half.false), (omega arith, (c.requires.given.within, c.requires.inside.0))) }
 
 pub returns-then-not-pair_fits : goal.returns-then-not-pair_fits
 returns-then-not-pair_fits c = across_no _ _ _ _ _ _ (path_long c.requires.given.path) c.if-len-half.false (sym c.pair_fits.ensures ∙ c.if-not-pair_fits.true)
@@ -29,7 +29,7 @@ pub overflow_sub-len-3 : goal.overflow_sub-len-3
 overflow_sub-len-3 c = omega (arith, c.if-len-half.false)
 
 pub pair_fits-requires-2 : goal.pair_fits-requires-2
-pair_fits-requires-2 c = record { given = c.requires.given; i_lt_len = (omega (arith, c.requires.a_lt_n.1, c.if-len-half.false), (omega arith, (c.requires.given.within, c.requires.a_lt_n.0))) }
+pair_fits-requires-2 c = record { given = c.requires.given; inside = (omega (arith, c.requires.inside.1, c.if-len-half.false), (omega arith, (c.requires.given.within, c.requires.inside.0))) }
 
 pub returns : goal.returns
 returns c = across_odd _ _ _ _ _ _ (path_long c.requires.given.path) c.if-len-half.false _ (sym c.pair_fits.ensures ∙ c.if-not-pair_fits.false) c.if-half-k.false c.pair_fits-2.ensures
