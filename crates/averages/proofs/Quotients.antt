@@ -1,12 +1,7 @@
 -- The numbers of a quotient are cast without loss. Where there are no rings, rings per atom is +0.0, for every number of atoms: the
 -- checker computes the quotients.
-use mathlib.Core.Path.{◌≡◌, refl}
-use mathlib.Core.Bool.{Bool, true, false}
-use Prim.Native.Nat.{ℕ, zero, suc, ◌^◌, ◌<◌}
-use native.Mathlib.Omega.{arith}
-use lib.Dec.{T}
-use lib.IntN.{pos, negsuc}
-use lib.Ieee.{Float, nan, inf, fin, binary64, div, of_int, of_bits}
+use Rattle.std.proofs.Common.{◌≡◌, refl, Bool, true, false, ℕ, zero, suc, ◌^◌, ◌<◌, arith, T, pos, negsuc, Float}
+use lib.Ieee.{nan, inf, fin, binary64, div, of_int, of_bits}
 use lib.Ieee.Exact.{HasValue}
 use lib.Ieee.Back.{round_whole}
 use Rattle.graph.specs.Lists.{numbers_from}

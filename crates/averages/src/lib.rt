@@ -2,20 +2,14 @@
 #![tactic(auto)]
 
 ghost use Rattle.std.specs.Prelude.{◌≡◌};
-ghost use Rattle.averages.specs.Averages.{quotient, mean_of, mean_values, averages_of, no_averages, AveragesTold};
+ghost use Rattle.averages.specs.Averages.{quotient, mean_of, averages_of, no_averages, AveragesTold};
 
 #[derive(Drop)]
 pub struct Averages {
     // Rings per atom.
     pub per_atom: f64,
-    pub mean: Mean,
-}
-
-// The mean length of the rings.
-#[derive(Clone, Copy)]
-pub enum Mean {
-    Of(f64),
-    NoRings,
+    // The mean length of the rings, where there are any.
+    pub mean: Option<f64>,
 }
 
 // Rings per atom, and the mean length of `total` rings whose lengths add up to `lengths`. At n = 0, which no network has, rings per
@@ -34,18 +28,19 @@ pub fn no_averages() -> Averages
 {
     Averages {
         per_atom: 0.0,
-        mean: Mean::NoRings,
+        mean: None,
     }
 }
 
-// The mean length of the rings, or that there are none.
-fn mean_of(total: u32, lengths: u32) -> Mean
-    ensures { mean_values result ≡ mean_values (mean_of total lengths) }
+// The mean length of the rings, where there are any.
+fn mean_of(total: u32, lengths: u32) -> Option<f64>
+    ensures { result ≡ mean_of total lengths }
 {
     if total == 0 {
-        return Mean::NoRings;
+        None
+    } else {
+        Some(quotient(lengths, total))
     }
-    Mean::Of(quotient(lengths, total))
 }
 
 // One over the other: both are cast without loss and divided once.

@@ -1,11 +1,6 @@
 -- Refusals 26 and 27 at each way through the tests of a bond.
-use mathlib.Core.Path.{◌≡◌, sym, ◌∙◌}
-use mathlib.Core.Bool.{Bool, true, false, not}
-use Prim.Native.Nat.{ℕ, ◌-◌, ◌≤◌, ◌<◌}
-use native.Mathlib.Omega.{arith}
-use lib.Dec.{ltb}
-use lib.ListN.{length}
-use borrow.Author.Tests.{eq-eqb, ne_eqb, lt-ltb, le-ltb, le-leb, lt-leb}
+use Rattle.std.proofs.Common.{◌≡◌, sym, ◌∙◌, Bool, true, false, not, ℕ, ◌-◌, ◌≤◌, ◌<◌, arith, ltb, length, eq-eqb, ne_eqb, lt-ltb, le-ltb, le-leb}
+use Rattle.std.proofs.lemmas.Bool.{lt-leb}
 use Rattle.network.specs.Maxima.{places}
 use Rattle.bonds.specs.Bonds.{Bond, partners, bonds_below, full}
 use Rattle.bnw.specs.Reading.{earlier_bond, inside, is_in_order, file_bond_fault}

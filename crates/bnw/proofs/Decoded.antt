@@ -1,14 +1,7 @@
 -- The bytes of a file and its fields: what is read is what was written, and the other way round.
-use mathlib.Core.Path.{◌≡◌, refl, sym, ◌∙◌, ap, ap₂}
-use mathlib.Core.Bool.{Bool, true, false}
-use mathlib.Core.List.{List, [], ◌∷◌, ◌++◌, append_assoc}
-use Prim.Native.Nat.{ℕ, zero, suc, ◌+◌, ◌*◌, ◌/◌, ◌%◌, ◌≤◌, ◌<◌}
-use native.Mathlib.Numerals.{add-one}
-use native.Mathlib.Omega.{arith}
+use Rattle.std.proofs.Common.{◌≡◌, refl, sym, ◌∙◌, ap, ap₂, true, List, [], ◌∷◌, ◌++◌, append_assoc, ℕ, zero, suc, ◌+◌, ◌*◌, ◌/◌, ◌%◌, ◌≤◌, ◌<◌, add-one, arith, length, get_or, take, take-suc, take_all, ext_get_or, get_or-append-add, eq-eqb, ne_eqb}
 use native.Mathlib.Decide.{ℕ_discrete}
-use lib.ListN.{length, get_or, take}
-use lib.Seq.{take-suc, take_all, ext_get_or, get_or-append-add}
-use borrow.Author.Tests.{eq-eqb, ne_eqb}
+use Rattle.std.proofs.lemmas.Bool.{false≢true}
 use Rattle.graph.specs.Lists.{gather, numbers_from}
 use Rattle.graph.proofs.Lists.{get_or_map, get_or_count, length_count}
 use Rattle.bonds.specs.Bonds.{Bond, bonds_below}
@@ -37,17 +30,14 @@ module _ (file : List ℕ) (bytes : Bytes file) where
     unfolding marked
     marks = go (ℕ_discrete (get_or file 0 0) 66) (ℕ_discrete (get_or file 1 0) 78) (ℕ_discrete (get_or file 2 0) 87)
       where
-        never : ◌≡◌ {A = Bool} false true → ⊥
-        never q = let z : ◌≡◌ {A = ℕ} 0 1 = cc in omega arith
-
         go : Dec (get_or file 0 0 ≡ 66) → Dec (get_or file 1 0 ≡ 78) → Dec (get_or file 2 0 ≡ 87) → take 3 file ≡ mark
         go (yes a) (yes b) (yes c) =
             take-suc file 2 0 (omega arith)
             ∙ ap (λ (xs : List ℕ). xs ++ (get_or file 2 0 ∷ [])) (take-suc file 1 0 (omega arith) ∙ ap (λ (xs : List ℕ). xs ++ (get_or file 1 0 ∷ [])) (take-suc file 0 0 (omega arith)))
             ∙ rw (a, b, c)
-        go (yes a) (yes b) (no c) = absurd (never (rw (eq-eqb (get_or file 0 0) 66 a, eq-eqb (get_or file 1 0) 78 b, ne_eqb (get_or file 2 0) 87 c) at m))
-        go (yes a) (no b) _ = absurd (never (rw (eq-eqb (get_or file 0 0) 66 a, ne_eqb (get_or file 1 0) 78 b) at m))
-        go (no a) _ _ = absurd (never (rw (ne_eqb (get_or file 0 0) 66 a) at m))
+        go (yes a) (yes b) (no c) = absurd (false≢true (rw (eq-eqb (get_or file 0 0) 66 a, eq-eqb (get_or file 1 0) 78 b, ne_eqb (get_or file 2 0) 87 c) at m))
+        go (yes a) (no b) _ = absurd (false≢true (rw (eq-eqb (get_or file 0 0) 66 a, ne_eqb (get_or file 1 0) 78 b) at m))
+        go (no a) _ _ = absurd (false≢true (rw (ne_eqb (get_or file 0 0) 66 a) at m))
 
     head_bytes : take head_length file ≡ head_of (field file 5) (field file 7)
     head_bytes =

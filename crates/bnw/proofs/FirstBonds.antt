@@ -1,13 +1,6 @@
 -- Refusals 26 and 27 name the first bond at fault.
-use mathlib.Core.Path.{◌≡◌, refl, sym, ◌∙◌, subst}
-use mathlib.Core.Logic.{◌⊎◌, inl, inr}
-use mathlib.Core.Bool.{Bool, true, false, cond, not}
-use mathlib.Core.List.{List}
-use Prim.Native.Nat.{ℕ, zero, suc, ◌+◌, ◌*◌, ◌≤◌, ◌<◌}
-use native.Mathlib.Omega.{arith}
+use Rattle.std.proofs.Common.{true≢false, ◌≡◌, refl, sym, ◌∙◌, subst, ◌⊎◌, inl, inr, Bool, true, false, cond, not, List, ℕ, zero, suc, ◌+◌, ◌*◌, ◌≤◌, ◌<◌, arith, eqb, ltb, length}
 use native.Mathlib.Decide.{dec_le}
-use lib.Dec.{eqb, ltb}
-use lib.ListN.{length}
 use Rattle.network.specs.declared.Answer.{Answer}
 use Rattle.network.specs.Maxima.{atoms_most, places}
 use Rattle.bonds.specs.declared.Reading.{Reading}
@@ -20,13 +13,10 @@ use Rattle.bnw.specs.FirstBond.{Misplaced, NamesFirstBond}
 use Rattle.bnw.proofs.BondFaults.{follows_none, fault_first, fault_second, fault_order, fault_after, fault_ninth_first, fault_ninth_second, fault_none}
 use Rattle.bnw.proofs.Valid.{follows_earlier, earlier_follows, right_of}
 
-never : ◌≡◌ {A = Bool} true false → ⊥
-never q = let z : ◌≡◌ {A = ℕ} 0 1 = cc in omega arith
-
 -- the previous bond
 not_follows : (bond : ℕ → Bond) (k : ℕ) → is_in_order bond k ≡ false → (j : ℕ) × (suc j ≡ k) × (EarlierBond (bond j) (bond k) → ⊥)
-not_follows bond zero f = absurd (never (follows_none bond zero refl ∙ f))
-not_follows bond (suc k) f = (k, refl, λ e. never (sym (earlier_follows bond k e) ∙ f))
+not_follows bond zero f = absurd (true≢false (follows_none bond zero refl ∙ f))
+not_follows bond (suc k) f = (k, refl, λ e. true≢false (sym (earlier_follows bond k e) ∙ f))
 
 module _ (n : ℕ) (bond : ℕ → Bond) (k : ℕ) where
   placed : (bond k).first < (bond k).second → (bond k).second < n → is_in_order bond k ≡ true → Misplaced n bond k → ⊥

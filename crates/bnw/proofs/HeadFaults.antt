@@ -1,13 +1,5 @@
 -- Refusals 19 to 25 at each way through the tests.
-use mathlib.Core.Path.{◌≡◌, sym, ◌∙◌}
-use mathlib.Core.Bool.{Bool, true, false, not, cond}
-use mathlib.Core.List.{List}
-use Prim.Native.Nat.{ℕ, ◌+◌, ◌*◌, ◌≤◌, ◌<◌}
-use native.Mathlib.Omega.{arith}
-use lib.Dec.{eqb, ltb}
-use lib.IntN.{pos}
-use lib.ListN.{length, get_or}
-use borrow.Author.Tests.{eq-eqb, ne_eqb, lt-ltb, le-ltb}
+use Rattle.std.proofs.Common.{◌≡◌, sym, ◌∙◌, Bool, true, false, not, cond, List, ℕ, ◌+◌, ◌*◌, ◌≤◌, ◌<◌, arith, eqb, ltb, pos, length, get_or, eq-eqb, ne_eqb, lt-ltb, le-ltb}
 use Rattle.network.specs.Maxima.{atoms_most, places}
 use Rattle.bnw.specs.File.{mark, version, bonds_most, head_length, bond_length}
 use Rattle.bnw.specs.Reading.{field, signed, marked, head_fault, read_value}

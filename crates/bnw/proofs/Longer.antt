@@ -1,14 +1,6 @@
 -- A file that is longer than any network's is refused, and its first bytes, one more than the greatest file has, are judged as it is.
-use mathlib.Core.Path.{◌≡◌, refl, sym, ◌∙◌, ap, ap₂}
-use mathlib.Core.Bool.{Bool, true, false, not, cond}
-use mathlib.Core.List.{List}
-use Prim.Native.Nat.{ℕ, ◌+◌, ◌*◌, ◌<◌}
-use native.Mathlib.Omega.{arith}
+use Rattle.std.proofs.Common.{◌≡◌, refl, sym, ◌∙◌, ap, ap₂, Bool, true, false, not, cond, List, ℕ, ◌+◌, ◌*◌, ◌<◌, arith, ne_eqb, le-ltb, eqb, length, get_or, take, length-take-le, take_all, get_or-take}
 use native.Mathlib.Decide.{dec_le}
-use borrow.Author.Tests.{ne_eqb, le-ltb}
-use lib.Dec.{eqb}
-use lib.ListN.{length, get_or, take}
-use lib.Seq.{length-take-le, take_all, get_or-take}
 use Rattle.network.specs.declared.Answer.{Answer}
 use Rattle.network.specs.Maxima.{atoms_most}
 use Rattle.network.specs.Verdict.{refusal}

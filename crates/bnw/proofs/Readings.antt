@@ -1,13 +1,7 @@
 -- What comes of reading, at each way through the checks.
-use mathlib.Core.Path.{◌≡◌, refl, sym, ◌∙◌, ap}
-use mathlib.Core.Bool.{Bool, true, false, cond, ◌||◌, ◌&&◌, not}
-use mathlib.Core.List.{List, ◌++◌}
-use Prim.Native.Nat.{ℕ, ◌+◌, ◌*◌, ◌≤◌, ◌<◌}
-use native.Mathlib.Omega.{arith}
+use Rattle.std.proofs.Common.{◌≡◌, refl, sym, ◌∙◌, ap, Bool, true, false, cond, ◌||◌, ◌&&◌, not, List, ◌++◌, ℕ, ◌+◌, ◌*◌, ◌≤◌, ◌<◌, arith, ℤ, pos, length, drop}
 use native.Mathlib.Decide.{dec_lt, ℕ_discrete}
-use lib.IntN.{ℤ, pos}
-use lib.ListN.{length, drop}
-use lib.Seq.{sets}
+use Rattle.std.proofs.lemmas.List.Edits.{sets}
 use Rattle.graph.proofs.Lists.{sets_front}
 use Rattle.network.specs.declared.Answer.{Answer}
 use Rattle.network.specs.Maxima.{atoms_most, places}

@@ -6,15 +6,8 @@
 --   accepted_exactly  a file is accepted exactly when it is what writing makes of a network for which there is room
 --   reads_one         two outcomes of reading a file into a table are the same
 --   writes_one        two outcomes of writing a network into bytes are the same
-use mathlib.Core.Path.{◌≡◌, refl, sym, ◌∙◌, ap, ap₂}
-use mathlib.Core.Logic.{◌↔◌}
-use mathlib.Core.List.{List, ◌++◌}
-use Prim.Native.Nat.{ℕ, ◌*◌, ◌≤◌}
-use native.Mathlib.Omega.{arith}
+use Rattle.std.proofs.Common.{◌≡◌, refl, sym, ◌∙◌, ap, ap₂, ◌↔◌, List, ◌++◌, ℕ, ◌*◌, ◌≤◌, arith, length, take, drop, take_at, le-ltb}
 use native.Mathlib.Decide.{ℕ_discrete}
-use lib.ListN.{length, take, drop}
-use lib.Seq.{take_at}
-use borrow.Author.Tests.{le-ltb}
 use Rattle.network.specs.declared.Answer.{Answer}
 use Rattle.network.specs.Maxima.{places}
 use Rattle.network.specs.Network.{IsNetwork}

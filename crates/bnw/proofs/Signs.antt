@@ -1,33 +1,18 @@
 -- Fields of a file: the signed reading.
-use mathlib.Core.Path.{◌≡◌, ◌∙◌}
-use mathlib.Core.Bool.{true, false, and-false}
-use Prim.Native.Nat.{ℕ, suc, ◌-◌, ◌≤◌, ◌<◌}
-use native.Mathlib.Omega.{arith}
+use Rattle.std.proofs.Common.{◌≡◌, refl, true, false, ℕ, suc, ◌-◌, ◌≤◌, ◌<◌, pos, negsuc, ◌-ℤ◌, to_z, w16, arith, lt-ltb, le-ltb, le-leb}
+use Rattle.std.proofs.Math.Bool.{and-false}
+use Rattle.std.proofs.lemmas.Bool.{lt-leb}
 use native.Mathlib.Decide.{dec_lt}
-use borrow.Author.Tests.{lt-ltb, le-ltb, le-leb, lt-leb}
-use lib.IntN.{pos, negsuc, ◌-ℤ◌}
-use mir.Syntax.{w32}
-use mir.Val.{SFits, to_z, of_z}
-use mir.Facts.{to_z_pos, to_z-of_z}
 use Rattle.bnw.specs.Reading.{signed, out_of_range}
 
 module _ (v : ℕ) (h : v < 65536) where
-  word_pos : to_z w32 v ≡ pos v
-  word_pos = to_z_pos w32 (omega arith)
-
-  pub signed_low : v < 32768 → to_z w32 v ≡ signed v
-  unfolding signed
-  signed_low l = rw (lt-ltb v 32768 l) word_pos
-
   below_zero : pos v -ℤ pos 65536 ≡ negsuc (65536 - suc v)
   below_zero = rw (lt-ltb v 65536 h)
 
-  pub signed_fits : SFits w32 (to_z w32 v -ℤ pos 65536)
-  signed_fits = rw (word_pos, below_zero) (record { sfits = omega arith })
-
-  pub signed_high : 32768 ≤ v → to_z w32 (of_z w32 (to_z w32 v -ℤ pos 65536)) ≡ signed v
+  -- the number of 16 bits is signed in the same way
+  pub signed_is : to_z w16 v ≡ signed v
   unfolding signed
-  signed_high l = to_z-of_z signed_fits ∙ rw (le-ltb v 32768 l, word_pos)
+  signed_is = elim (dec_lt v 32768) [ yes l ↦ rw (lt-ltb v 32768 l) refl | no l ↦ rw (le-ltb v 32768 (omega arith), below_zero) refl ]
 
 -- a count that is negative is out of range, as one that is too great is
 module _ (low high v : ℕ) where

@@ -1,15 +1,8 @@
 -- Bonds without a fault are valid bonds.
-use mathlib.Core.Path.{◌≡◌, refl, sym, subst}
-use mathlib.Core.Logic.{inl, inr}
-use mathlib.Core.Bool.{Bool, true, false}
+use Rattle.std.proofs.Common.{◌≡◌, refl, sym, subst, inl, inr, Bool, true, false, [], ◌∷◌, ℕ, zero, suc, ◌-◌, ◌≤◌, ◌<◌, add-one, arith, length, eq-eqb, ne_eqb, lt-ltb, le-ltb}
 use mathlib.Core.List.Memᴰ
-use mathlib.Core.List.{[], ◌∷◌}
-use Prim.Native.Nat.{ℕ, zero, suc, ◌-◌, ◌≤◌, ◌<◌}
-use native.Mathlib.Numerals.{add-one}
-use native.Mathlib.Omega.{arith}
 use native.Mathlib.Decide.{dec_le, dec_lt, ℕ_discrete}
-use lib.ListN.{length}
-use borrow.Author.Tests.{eq-eqb, ne_eqb, lt-ltb, le-ltb}
+use Rattle.std.proofs.lemmas.Bool.{false≢true}
 use Rattle.graph.specs.Lists.{Ascending}
 use Rattle.graph.proofs.Lists.{append_ascending}
 use Rattle.network.specs.Maxima.{places}
@@ -25,14 +18,11 @@ pub earlier_of : (a b : Bond) → earlier_bond a b ≡ true → EarlierBond a b
 unfolding earlier_bond
 earlier_of a b e = go (dec_lt a.first b.first) (ℕ_discrete a.first b.first) (dec_lt a.second b.second)
   where
-    never : ◌≡◌ {A = Bool} false true → ⊥
-    never q = let z : ◌≡◌ {A = ℕ} 0 1 = cc in omega arith
-
     go : Dec (a.first < b.first) → Dec (a.first ≡ b.first) → Dec (a.second < b.second) → EarlierBond a b
     go (yes l) _ _ = inl l
     go (no l) (yes d) (yes m) = inr (d, m)
-    go (no l) (yes d) (no m) = absurd (never (rw (le-ltb a.first b.first (omega arith), eq-eqb a.first b.first d, le-ltb a.second b.second (omega arith)) at e))
-    go (no l) (no d) _ = absurd (never (rw (le-ltb a.first b.first (omega arith), ne_eqb a.first b.first d) at e))
+    go (no l) (yes d) (no m) = absurd (false≢true (rw (le-ltb a.first b.first (omega arith), eq-eqb a.first b.first d, le-ltb a.second b.second (omega arith)) at e))
+    go (no l) (no d) _ = absurd (false≢true (rw (le-ltb a.first b.first (omega arith), ne_eqb a.first b.first d) at e))
 
 pub earlier_is : (a b : Bond) → EarlierBond a b → earlier_bond a b ≡ true
 unfolding earlier_bond

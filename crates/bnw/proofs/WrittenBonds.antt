@@ -1,44 +1,27 @@
 -- The bytes of a table's bonds, written word by word.
-use mathlib.Core.Path.{◌≡◌, refl, sym, ◌∙◌, ap}
-use mathlib.Core.List.{List, [], ◌∷◌}
-use Prim.Native.Nat.{ℕ, ◌+◌, ◌*◌, ◌/◌, ◌≤◌, ◌<◌}
-use native.Mathlib.Omega.{arith}
-use lib.ListN.{length, get_or, length-append}
-use lib.Seq.{sets}
+use Rattle.std.proofs.Common.{◌≡◌, refl, sym, ◌∙◌, ap, List, [], ◌∷◌, ℕ, ◌+◌, ◌*◌, ◌/◌, ◌≤◌, arith, length, get_or, length-append}
+use Rattle.std.proofs.lemmas.List.Edits.{sets}
 use Rattle.graph.specs.Lists.{gather, numbers_from}
 use Rattle.network.specs.Maxima.{places}
 use Rattle.bonds.specs.Bonds.{Bond, bond, bond_at, bonds_of}
 use Rattle.bonds.proofs.Runs.{gather_more, gather_append, length_more, sets_after}
-use Rattle.bonds.proofs.TableBonds.{bond_is}
 use Rattle.bnw.specs.File.{bond_bytes, head_length, bond_length, two_bytes, mark, version, head_of}
 
 -- a bond written, or none
-module _ (t l : List ℕ) (i at many : ℕ) (e : many ≡ length (bond_at t i)) where
-  none : many ≡ 0 → bond_at t i ≡ []
-  none z = go (bond_at t i) (sym e ∙ z)
-    where
-      go : (bonds : List Bond) → length bonds ≡ 0 → bonds ≡ []
-      go [] h = refl
-      go (b ∷ bonds) h = absurd (omega arith)
+module _ (t : List ℕ) (i at : ℕ) where
+  module _ (none : bond_at t i ≡ []) where
+    pub none_past : at ≡ at + bond_length * length (bond_at t i)
+    none_past = rw none (omega arith)
 
-  pub none_past : many ≡ 0 → at ≡ at + bond_length * length (bond_at t i)
-  none_past z = rw (none z) (omega arith)
+    pub none_written : (l : List ℕ) → l ≡ sets l at (gather bond_bytes (bond_at t i))
+    none_written l = rw none
 
-  pub none_written : many ≡ 0 → l ≡ sets l at (gather bond_bytes (bond_at t i))
-  none_written z = rw (none z)
-
-  module _ (z : many ≡ 0 → ⊥) where
-    is : bond_at t i ≡ bond (i / places) (get_or t i 0) ∷ []
-    is = bond_is t i (λ h. z (e ∙ ap length h))
-
+  module _ (one : bond_at t i ≡ bond (i / places) (get_or t i 0) ∷ []) where
     pub bond_past : at + bond_length ≡ at + bond_length * length (bond_at t i)
-    bond_past = rw is
+    bond_past = rw one
 
-    pub bond_fits : at + bond_length * length (bond_at t i) ≤ length l → at + 3 < length l
-    bond_fits h = omega (arith, ap length is)
-
-    pub bond_written : (m o : List ℕ) → m ≡ sets l at (two_bytes (i / places)) → o ≡ sets m (at + 2) (two_bytes (get_or t i 0)) → o ≡ sets l at (gather bond_bytes (bond_at t i))
-    bond_written m o d h = rw is (h ∙ sets_after l m at (at + 2) (two_bytes (i / places)) (two_bytes (get_or t i 0)) d refl)
+    pub bond_written : (l m o : List ℕ) → m ≡ sets l at (two_bytes (i / places)) → o ≡ sets m (at + 2) (two_bytes (get_or t i 0)) → o ≡ sets l at (gather bond_bytes (bond_at t i))
+    bond_written l m o d h = rw one (h ∙ sets_after l m at (at + 2) (two_bytes (i / places)) (two_bytes (get_or t i 0)) d refl)
 
 pub bytes_length : (bonds : List Bond) → length (gather bond_bytes bonds) ≡ bond_length * length bonds
 bytes_length [] = refl

@@ -6,8 +6,9 @@
 
 ghost use Rattle.std.specs.Prelude.{◌≡◌};
 ghost use Rattle.bnw.specs.Reading.{of_bytes, signed};
+ghost use Rattle.bnw.specs.Writing.{told_bytes};
 
-use network::{Answer, Network};
+use network::{Answer, Network, Refusal};
 
 // The bytes before the bonds, and of a bond.
 pub const HEAD: usize = 9;
@@ -27,7 +28,8 @@ pub const BONDS_AT: usize = 7;
 // The most bonds of a network: each has two atoms, and an atom has at most a row's places.
 pub const BONDS: usize = Network::ATOMS * Network::PLACES / 2;
 
-// What comes of writing: the answer and the bytes written.
+// What comes of writing, as C has it (include/rings.h): the answer and the bytes written.
+// Kept: C's struct `rings_written`; the writer answers a Result, which is turned into it for C.
 #[repr(C)]
 #[derive(Drop)]
 pub struct FileWritten {
@@ -35,19 +37,33 @@ pub struct FileWritten {
     pub bytes: usize,
 }
 
+impl From<Result<usize, Refusal>> for FileWritten {
+    ghost from_gives = { λ outcome written. written ≡ told_bytes outcome };
+
+    fn from(outcome: Result<usize, Refusal>) -> FileWritten {
+        match outcome {
+            Ok(bytes) => FileWritten {
+                answer: Answer::accepted(),
+                bytes,
+            },
+            Err(refusal) => FileWritten {
+                answer: refusal.into(),
+                bytes: 0,
+            },
+        }
+    }
+}
+
 // The number of two bytes, little-endian.
 pub fn of_bytes(low: u8, high: u8) -> u16
     ensures { result ≡ of_bytes low high }
 {
-    low as u16 + 256 * (high as u16)
+    u16::from_le_bytes([low, high])
 }
 
 // A 16-bit number in two's complement.
 pub fn signed(v: u16) -> i32
     ensures { result ≡ signed v }
 {
-    if v < 32768 {
-        return v as i32;
-    }
-    v as i32 - 65536
+    i32::from(v.cast_signed())
 }

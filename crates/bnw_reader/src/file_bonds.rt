@@ -1,120 +1,86 @@
-// The bonds of a file: refusals 26 and 27.
-ghost use Rattle.std.specs.Prelude.{◌≡◌, suc, ◌+◌, ◌*◌, ◌≤◌, ◌<◌, length};
-ghost use Rattle.bonds.specs.Bonds.{partner, partners, bonds_below};
+// The bonds of a file, as a slice of the bytes of each: refusals 26 and 27.
+ghost use Rattle.std.specs.Prelude.{◌≡◌, ◌<◌, length};
+ghost use Rattle.network.specs.Refusals.{told, number_or_0};
 ghost use Rattle.bonds.specs.Scan.{first_bond};
-ghost use Rattle.bnw.specs.File.{head_length, bond_length};
-ghost use Rattle.bnw.specs.Reading.{bond_in, is_in_order, file_bond_fault};
+ghost use Rattle.bnw.specs.Reading.{is_in_order, file_bond_fault};
+ghost use Rattle.bnw_reader.specs.FileBonds.{bond_from, among, partner_if, partners_in};
 
 use crate::fields;
-use network::{Answer, Network};
+use bonds::Bond;
+use network::{Network, Reason, Refusal};
+
+// The bytes of a bond.
+pub type BondBytes = [u8; bnw::BOND];
 
 // The first of refusals 26 and 27 among the bonds of a file.
-pub fn bond_faults(n: usize, file: &[u8], bonds: usize) -> Answer
-    requires { head_length + bond_length * bonds ≤ length file.now }
-    ensures { result ≡ first_bond (file_bond_fault n (bond_in file.now)) bonds 0 }
+pub fn bond_faults(n: usize, bonds: &[BondBytes]) -> Result<(), Refusal>
+    ensures { told result ≡ first_bond (file_bond_fault n (among bonds.now)) (length bonds.now) 0 }
 {
-    let mut k = 0;
-    while k < bonds {
-        let code = bond_fault(n, file, k);
-        if code != 0 {
-            return Answer {
-                code: code,
-                row: 0,
-                place: k,
-            };
+    for k in 0..bonds.len() {
+        if let Some(reason) = bond_fault(n, bonds, k) {
+            return Err(reason.at(k));
         }
-        k += 1;
     }
-    Answer::accepted()
+    Ok(())
 }
 
-// Refusal 26 or 27 at bond k, or 0.
-fn bond_fault(n: usize, file: &[u8], k: usize) -> u8
-    requires { head_length + bond_length * suc k ≤ length file.now }
-    ensures { result ≡ file_bond_fault n (bond_in file.now) k }
+// Refusal 26 or 27 at bond k.
+fn bond_fault(n: usize, bonds: &[BondBytes], k: usize) -> Option<Reason>
+    requires { k < length bonds.now }
+    ensures { number_or_0 result ≡ file_bond_fault n (among bonds.now) k }
 {
-    let first = first_atom(file, k);
-    let second = second_atom(file, k);
-    if n <= first {
-        return 26;
+    let bond = bond(&bonds[k]);
+    let first = bond.first as usize;
+    let second = bond.second as usize;
+    if n <= first || n <= second || second <= first || !is_in_order(bonds, k) {
+        return Some(Reason::FileBond);
     }
-    if n <= second {
-        return 26;
+    let before = &bonds[..k];
+    if Network::PLACES <= partner_count(before, first)
+        || Network::PLACES <= partner_count(before, second)
+    {
+        return Some(Reason::NinthBond);
     }
-    if second <= first {
-        return 26;
-    }
-    if !comes_after(file, k) {
-        return 26;
-    }
-    if Network::PLACES <= bonds_before(file, k, first) {
-        return 27;
-    }
-    if Network::PLACES <= bonds_before(file, k, second) {
-        return 27;
-    }
-    0
+    None
 }
 
-// The smaller atom of bond k.
-pub fn first_atom(file: &[u8], k: usize) -> usize
-    requires { head_length + bond_length * suc k ≤ length file.now }
-    ensures { (result ≡ (bond_in file.now k).first) × (result < 65536) }
+// The bond of four bytes.
+fn bond(bytes: &BondBytes) -> Bond
+    ensures { result ≡ bond_from bytes.now }
 {
-    fields::field(file, bnw::HEAD + bnw::BOND * k)
-}
-
-// The greater atom of bond k.
-pub fn second_atom(file: &[u8], k: usize) -> usize
-    requires { head_length + bond_length * suc k ≤ length file.now }
-    ensures { (result ≡ (bond_in file.now k).second) × (result < 65536) }
-{
-    fields::field(file, bnw::HEAD + bnw::BOND * k + 2)
+    Bond {
+        first: fields::field(bytes, 0),
+        second: fields::field(bytes, 2),
+    }
 }
 
 // Whether bond k comes after the previous one, if there is one.
-fn comes_after(file: &[u8], k: usize) -> bool
-    requires { head_length + bond_length * suc k ≤ length file.now }
-    ensures { result ≡ is_in_order (bond_in file.now) k }
+#[tactic(auto, unfolding(bnw::specs::Reading::is_in_order, bnw::specs::Reading::earlier_bond))]
+fn is_in_order(bonds: &[BondBytes], k: usize) -> bool
+    requires { k < length bonds.now }
+    ensures { result ≡ is_in_order (among bonds.now) k }
 {
-    if k == 0 {
-        return true;
-    }
-    let before = first_atom(file, k - 1);
-    let first = first_atom(file, k);
-    if before < first {
-        return true;
-    }
-    if before != first {
-        return false;
-    }
-    second_atom(file, k - 1) < second_atom(file, k)
+    k == 0 || bond(&bonds[k - 1]) < bond(&bonds[k])
 }
 
-// How many of the bonds below k are bonds of x.
-fn bonds_before(file: &[u8], k: usize, x: usize) -> usize
-    requires { head_length + bond_length * k ≤ length file.now }
-    ensures { result ≡ length (partners (bonds_below (bond_in file.now) k) x) }
+// How many of these bonds are bonds of x.
+fn partner_count(bonds: &[BondBytes], x: usize) -> usize
+    ensures { result ≡ length (partners_in bonds.now x) }
 {
-    let mut many: usize = 0;
-    let mut j = 0;
-    while j < k {
-        many += bonds_at(file, j, x);
-        j += 1;
-    }
-    many
+    bonds.iter().filter_map(|bytes| partner(bytes, x)).count()
 }
 
-// 1 where bond j is a bond of x, or 0.
-fn bonds_at(file: &[u8], j: usize, x: usize) -> usize
-    requires { head_length + bond_length * suc j ≤ length file.now }
-    ensures { (result ≡ length (partner x (bond_in file.now j))) × (result ≤ 1) }
+// The other atom of a bond, where it is one of x.
+#[tactic(auto, unfolding(crate::specs::FileBonds::partner_if))]
+pub fn partner(bytes: &BondBytes, x: usize) -> Option<u16>
+    ensures { result ≡ partner_if x (bond_from bytes.now) }
 {
-    if first_atom(file, j) == x {
-        return 1;
+    let bond = bond(bytes);
+    if bond.first as usize == x {
+        Some(bond.second)
+    } else if bond.second as usize == x {
+        Some(bond.first)
+    } else {
+        None
     }
-    if second_atom(file, j) == x {
-        return 1;
-    }
-    0
 }

@@ -4,10 +4,9 @@ ghost use Rattle.std.proofs.lemmas.List.Edits.{sets};
 ghost use Rattle.bnw.specs.File.{two_bytes};
 
 // Writes v into the field at byte i.
-pub fn put_field(v: usize, file: &mut [u8], i: usize)
-    requires { (v < 65536) × (i + 1 < length file.old) }
+pub fn put_field(v: u16, file: &mut [u8], i: usize)
+    requires { i + 1 < length file.old }
     ensures { file.new ≡ sets file.old i (two_bytes v) }
 {
-    file[i] = (v % 256) as u8;
-    file[i + 1] = (v / 256) as u8;
+    file[i..i + 2].copy_from_slice(&v.to_le_bytes());
 }

@@ -4,34 +4,21 @@
 mod bytes;
 mod fields;
 
-ghost use Rattle.bnw.specs.Writing.{WriteOutcome};
+ghost use Rattle.bnw.specs.Writing.{WriteOutcome, told_bytes};
 
-use bnw::FileWritten;
-use network::Answer;
+use network::{Reason, Refusal};
 
-// Writes the file of a network into the bytes lent.
-pub fn write(n: usize, table: &[u16], file: &mut [u8]) -> FileWritten
-    ensures { WriteOutcome n table.now file.old file.new result }
+// Writes the file of a network into the bytes lent, and answers how many it has.
+pub fn write(n: usize, table: &[u16], file: &mut [u8]) -> Result<usize, Refusal>
+    ensures { WriteOutcome n table.now file.old file.new (told_bytes result) }
 {
-    let verdict = validator::validate(n, table);
-    if verdict.code != 0 {
-        return FileWritten {
-            answer: verdict,
-            bytes: 0,
-        };
-    }
+    validator::validate(n, table)?;
     let bonds = bytes::count_bonds(table);
     let length = bnw::HEAD + bnw::BOND * bonds;
     if file.len() < length {
-        return FileWritten {
-            answer: Answer::refused(28),
-            bytes: 0,
-        };
+        return Err(Reason::FileRoom.into());
     }
     bytes::write_head(n, bonds, file);
     bytes::write_bonds(table, file);
-    FileWritten {
-        answer: verdict,
-        bytes: length,
-    }
+    Ok(length)
 }

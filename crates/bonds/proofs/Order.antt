@@ -1,9 +1,6 @@
 -- The order of bonds, and those of number below k.
-use mathlib.Core.Path.{◌≡◌, ◌∙◌}
-use mathlib.Core.Logic.{inl, inr}
-use Prim.Native.Nat.{ℕ, ◌<◌}
-use native.Mathlib.Omega.{arith}
-use lib.ListN.{length, length-map}
+use Rattle.std.proofs.Common.{◌≡◌, ◌∙◌, inl, inr, ℕ, ◌<◌, arith, length}
+use lib.ListN.{length-map}
 use Rattle.graph.specs.Lists.{◌∈◌, numbers_from}
 use Rattle.graph.proofs.Lists.{map_of, count_of, length_count}
 use Rattle.bonds.specs.Bonds.{Bond, EarlierBond, bonds_below}

@@ -4,14 +4,8 @@
 --   read_network    it is the table of a network
 --   rows_inside     the rows read are part of the table
 --   readings_one    two outcomes of reading a file into a table are the same
-use mathlib.Core.Path.{◌≡◌, sym, ◌∙◌, ap, ap₂, subst}
-use mathlib.Core.List.{List, ◌++◌}
-use Prim.Native.Nat.{ℕ, ◌*◌, ◌≤◌}
-use native.Mathlib.Omega.{arith}
+use Rattle.std.proofs.Common.{◌≡◌, sym, ◌∙◌, ap, ap₂, subst, List, ◌++◌, ℕ, ◌*◌, ◌≤◌, arith, ℤ, length, take, drop, length-append, take_at}
 use native.Mathlib.Decide.{ℕ_discrete}
-use lib.IntN.{ℤ}
-use lib.ListN.{length, take, drop, length-append}
-use lib.Seq.{take_at}
 use Rattle.network.specs.declared.Answer.{Answer}
 use Rattle.network.specs.Maxima.{places}
 use Rattle.network.specs.Network.{IsNetwork}

@@ -1,17 +1,7 @@
 -- Both ways: from bonds to their table and its bonds, and from a network to its bonds and their table. Bonds are told by the atoms they join.
-use mathlib.Core.Path.{◌≡◌, refl, sym, ◌∙◌, ap, ap₂, subst}
-use mathlib.Core.Logic.{◌↔◌, inl, inr}
-use mathlib.Core.Bool.{Bool, true, false, not}
+use Rattle.std.proofs.Common.{◌≡◌, refl, sym, ◌∙◌, ap, ap₂, subst, ◌↔◌, inl, inr, Bool, true, false, not, List, [], ◌∷◌, ◌++◌, ℕ, zero, suc, ◌+◌, ◌-◌, ◌*◌, ◌/◌, ◌%◌, ◌≤◌, ◌<◌, min, add-one, arith, eqb, length, get_or, take, drop, replicate, length-take, length-drop, get_or-take, get_or-drop, take-add, take_all, eq-eqb, ne_eqb}
 use mathlib.Core.List.Memᴰ
-use mathlib.Core.List.{List, [], ◌∷◌, ◌++◌}
-use Prim.Native.Nat.{ℕ, zero, suc, ◌+◌, ◌-◌, ◌*◌, ◌/◌, ◌%◌, ◌≤◌, ◌<◌, min}
-use native.Mathlib.Numerals.{add-one}
-use native.Mathlib.Omega.{arith}
 use native.Mathlib.Decide.{dec_lt, ℕ_discrete}
-use lib.Dec.{eqb}
-use lib.ListN.{length, get_or, take, drop, replicate, length-take, length-drop}
-use lib.Seq.{get_or-take, get_or-drop, take-add, take_all}
-use borrow.Author.Tests.{eq-eqb, ne_eqb}
 use Rattle.graph.specs.Lists.{◌∈◌, Ascending, gather, numbers_from, keep, cons_if}
 use Rattle.graph.proofs.Lists.{gather_of, gather_has, gather_ascending, count_of, count_has, ascending_unique}
 use Rattle.network.specs.Maxima.{places, free}

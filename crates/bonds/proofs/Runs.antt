@@ -1,12 +1,7 @@
 -- Runs of stores, and lists gathered one number after another.
-use mathlib.Core.Path.{◌≡◌, refl, sym, ◌∙◌, ap}
-use mathlib.Core.List.{List, [], ◌∷◌, ◌++◌, map, append_assoc, append-nil}
-use Prim.Native.Nat.{ℕ, zero, suc, ◌+◌, ◌-◌, ◌≤◌, ◌<◌}
-use native.Mathlib.Numerals.{add-one}
-use native.Mathlib.Omega.{arith}
+use Rattle.std.proofs.Common.{◌≡◌, refl, sym, ◌∙◌, ap, List, [], ◌∷◌, ◌++◌, map, append_assoc, append-nil, ℕ, zero, suc, ◌+◌, ◌≤◌, ◌<◌, add-one, arith, length, set, length-append}
 use native.Mathlib.Decide.{ℕ_discrete}
-use lib.ListN.{length, set, replicate, length-append, length-replicate, replicate-append-replicate}
-use lib.Seq.{sets}
+use Rattle.std.proofs.lemmas.List.Edits.{sets}
 use Rattle.graph.specs.Lists.{gather, numbers_from}
 
 -- one run after another
@@ -16,9 +11,6 @@ sets_append l i (v ∷ vs) ws = let e : i + suc (length vs) ≡ suc i + length v
 
 pub sets_after : (l m : List ℕ) (i at : ℕ) (vs ws : List ℕ) → m ≡ sets l i vs → at ≡ i + length vs → sets m at ws ≡ sets l i (vs ++ ws)
 sets_after l m i at vs ws e d = rw (e, d) (sets_append l i vs ws)
-
-pub replicate_more : (k a : ℕ) → replicate k a ++ (a ∷ []) ≡ replicate (k + 1) a
-replicate_more k a = replicate-append-replicate k 1 a
 
 module _ {A B : Type 0} where
   pub gather_append : (f : A → List B) (xs ys : List A) → gather f (xs ++ ys) ≡ gather f xs ++ gather f ys
@@ -64,17 +56,3 @@ module _ {B : Type 0} (f : ℕ → List B) where
 
   pub gather_fits : (k n : ℕ) → k < n → length (gather f (numbers_from k 0)) + length (f k) ≤ length (gather f (numbers_from n 0))
   gather_fits k n h = omega (arith, length_more k, no_fewer (k + 1) n (omega arith))
-
--- free places, one after another
-module _ (l : List ℕ) (from a : ℕ) where
-  pub free_start : l ≡ sets l from (replicate (from - from) a)
-  free_start = let e : from - from ≡ 0 = omega arith in rw e
-
-  pub free_more : (m : List ℕ) (i : ℕ) → from ≤ i → m ≡ sets l from (replicate (i - from) a) → set m i a ≡ sets l from (replicate (i + 1 - from) a)
-  free_more m i h e =
-      let d : i + 1 - from ≡ i - from + 1 = omega arith in
-      sets_after l m from i (replicate (i - from) a) (a ∷ []) e (omega (arith, length-replicate (i - from) a))
-      ∙ ap (sets l from) (replicate_more (i - from) a ∙ ap (λ (k : ℕ). replicate k a) (sym d))
-
-  pub free_done : (m : List ℕ) (i to : ℕ) → i ≤ to → to ≤ i → m ≡ sets l from (replicate (i - from) a) → m ≡ sets l from (replicate (to - from) a)
-  free_done m i to h k e = let d : to ≡ i = omega arith in rw d e

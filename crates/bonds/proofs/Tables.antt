@@ -1,13 +1,8 @@
 -- The table that valid bonds define is a network, with these bonds and no others.
-use mathlib.Core.Path.{◌≡◌, refl, sym, ◌∙◌, ap, ap₂, subst}
-use mathlib.Core.Logic.{inl, inr}
+use Rattle.std.proofs.Common.{◌≡◌, refl, sym, ◌∙◌, ap, ap₂, subst, inl, inr, List, [], ◌∷◌, ℕ, zero, suc, ◌+◌, ◌-◌, ◌*◌, ◌≤◌, ◌<◌, arith, length, get_or, replicate, get_or-append-add}
 use mathlib.Core.List.Memᴰ
-use mathlib.Core.List.{List, [], ◌∷◌}
-use Prim.Native.Nat.{ℕ, zero, suc, ◌+◌, ◌-◌, ◌*◌, ◌≤◌, ◌<◌}
-use native.Mathlib.Omega.{arith}
 use native.Mathlib.Decide.{dec_lt, ℕ_discrete}
-use lib.ListN.{length, get_or, replicate, get_or-replicate, get_or-append}
-use lib.Seq.{get_or-append-add}
+use lib.ListN.{get_or-replicate, get_or-append}
 use Rattle.graph.specs.Lists.{◌∈◌, Ascending, gather, numbers_from}
 use Rattle.graph.proofs.Lists.{gather_of, gather_has, gather_ascending, place_of, at_place}
 use Rattle.network.specs.Maxima.{places, free}

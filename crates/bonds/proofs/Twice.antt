@@ -1,15 +1,7 @@
 -- Each bond stands in two rows.
-use mathlib.Core.Path.{◌≡◌, refl, ◌∙◌, ap}
-use mathlib.Core.Bool.{cond}
+use Rattle.std.proofs.Common.{◌≡◌, refl, ◌∙◌, ap, cond, List, [], ◌∷◌, ◌++◌, ℕ, zero, suc, ◌+◌, ◌*◌, ◌<◌, add-one, arith, ltb, length, length-append, lt-ltb, le-ltb}
 use mathlib.Core.List.Memᴰ
-use mathlib.Core.List.{List, [], ◌∷◌, ◌++◌}
-use Prim.Native.Nat.{ℕ, zero, suc, ◌+◌, ◌*◌, ◌<◌}
-use native.Mathlib.Numerals.{add-one}
-use native.Mathlib.Omega.{arith}
 use native.Mathlib.Decide.{ℕ_discrete, dec_lt}
-use lib.Dec.{ltb}
-use lib.ListN.{length, length-append}
-use borrow.Author.Tests.{lt-ltb, le-ltb}
 use Rattle.graph.specs.Lists.{◌∈◌, gather, numbers_from}
 use Rattle.bonds.specs.Bonds.{Bond, partner, partners}
 use Rattle.bonds.proofs.Runs.{length_more}

@@ -15,13 +15,13 @@
 --   bonds_below bond k        the bonds of number below k
 --   full bond k x             whether x has, among the bonds of number below k, as many as a row has places
 --   Ninth bond k              27: one of the atoms of bond k has as many
+use Rattle.bonds.specs.declared.Bond.{Bond as BondFields}
 use Rattle.std.specs.Prelude.{◌≡◌, ◌⊎◌, Bool, cond, not, ◌&&◌, List, [], ◌∷◌, ◌++◌, map, ℕ, ◌-◌, ◌/◌, ◌≤◌, ◌<◌, eqb, leb, ltb, length, get_or, replicate}
 use Rattle.graph.specs.Lists.{◌∈◌, Ascending, gather, numbers_from}
 use Rattle.network.specs.Maxima.{places, free}
 
-pub record Bond : Type 0 where
-  pub first : ℕ
-  pub second : ℕ
+abbrev pub Bond : Type 0
+Bond = BondFields
 
 abbrev pub bond : ℕ → ℕ → Bond
 bond x y = record { first = x; second = y }

@@ -1,12 +1,7 @@
 -- The outcome of the candidate test at each way through it, and what it means: yes exactly for a shortest-path ring, the same
 -- words for every reading of a ring, and one outcome.
-use mathlib.Core.Path.{◌≡◌, refl, sym, ◌∙◌, ap}
-use mathlib.Core.Logic.{◌⊎◌, inl, inr, ◌↔◌}
-use mathlib.Core.List.{List}
-use Prim.Native.Nat.{ℕ, ◌-◌, ◌≤◌, ◌<◌}
-use native.Mathlib.Omega.{arith}
-use native.Mathlib.Decide.{ℕ_discrete, dec_lt}
-use lib.ListN.{length, get_or, replicate}
+use Rattle.std.proofs.Common.{◌≡◌, refl, sym, ◌∙◌, ap, ◌⊎◌, inl, inr, ◌↔◌, true, List, ℕ, ◌-◌, ◌≤◌, ◌<◌, length, get_or, replicate, arith, Err}
+use Rattle.std.proofs.Math.Decide.{ℕ_discrete, dec_lt}
 use Rattle.graph.specs.Graph.{around, ShortestPathRing}
 use Rattle.graph.specs.Writing.{RingReading}
 use Rattle.graph.proofs.Distances.{distance_unique}
@@ -14,18 +9,20 @@ use Rattle.graph.proofs.Readings.{reading_self, reading_trans, reading_ring, rea
 use Rattle.graph.proofs.Writings.{writing_unique}
 use Rattle.network.specs.declared.Answer.{Answer}
 use Rattle.network.specs.Network.{Bonded}
+use Rattle.network.specs.Verdict.{accepted}
 use Rattle.network.proofs.Bonds.{bonded_back, ring_atoms}
 use Rattle.distance.specs.Distances.{DistanceTable}
 use Rattle.distance.specs.Outcome.{DistancesOutcome}
 use Rattle.distance.proofs.Outcomes.{accepted_of_distance, table_unique}
-use Rattle.candidate.specs.declared.Shortest.{Shortest}
-use Rattle.candidate.specs.declared.Shortest.TheVariants.{Yes, No, Refused}
-use Rattle.candidate.specs.declared.Tested.{Tested}
+use Rattle.candidate.specs.Told.{Shortest, Yes, No, Tested, tested_told}
+use Rattle.network.specs.declared.refusals.Refusal.{Refusal}
+use Rattle.network.specs.Refusals.{answer_of}
+use Rattle.network.proofs.Refused.{numbered}
 use Rattle.ring.specs.Maxima.{ring_least, ring_most}
 use Rattle.ring.specs.Writes.{padded, WritingPadded}
 use Rattle.candidate_faults.specs.CandidateVerdict.{candidate_verdict, AtomsBelow}
-use Rattle.candidate.specs.ShorterPairs.{short_after, short_place}
-use Rattle.candidate.specs.CandidateOutcome.{Values, values, Shorter, FirstPair, RightValues, CandidateOutcome}
+use Rattle.candidate.specs.ShorterPairs.{short, NoneShort}
+use Rattle.candidate.specs.CandidateOutcome.{Values, values, Shorter, FirstPair, RightValues, FillOutcome, CandidateOutcome}
 use Rattle.candidate_faults.specs.RightCandidate.{RightCandidate}
 use Rattle.candidate_faults.proofs.CandidateVerdicts.{accepted_exactly}
 use Rattle.candidate.proofs.Values.{number, alike, values_tell}
@@ -34,43 +31,45 @@ use Rattle.candidate.proofs.ShorterPairs.{yes_shortest, no_pair}
 abbrev code : Answer → ℕ
 code a = a.code
 
--- what an accepted candidate gives to the calls that test it
-module _ (n : ℕ) (t r before : List ℕ) (a : Answer) (e : a ≡ candidate_verdict n t r before) where
-  pub out_refused : (c : Tested) → c.answer ≡ a → (a.code ≡ 0 → ⊥) → c.shortest ≡ Refused → c.writing ≡ replicate ring_most 0 → CandidateOutcome n t r before before c
-  out_refused c h z s w = record {
-    answer = h ∙ e;
-    refused = λ _. (refl, ap values s, w);
-    filled = λ y. absurd (z (ap code (sym h) ∙ y));
-    says = λ y. absurd (z (ap code (sym h) ∙ y));
+-- the buffer is filled where the candidate's checks accept it
+pub filled_after : (n : ℕ) (t r before after : List ℕ) (a : Answer) → accepted ≡ candidate_verdict n t r before → DistancesOutcome n t before after a → FillOutcome n t r before after a
+filled_after n t r before after a e D =
+    let A = (accepted_exactly n t r before).0 (ap code (sym e)) in
+    record { answer = D.answer ∙ accepted_of_distance n t before A.network A.room ∙ e; refused = D.refused; filled = D.filled }
+
+-- what that gives to the calls that test it
+module _ (n : ℕ) (t r before after : List ℕ) (F : FillOutcome n t r before after accepted) where
+  pub passed : RightCandidate n t r before
+  passed = (accepted_exactly n t r before).0 (ap code (sym F.answer))
+
+  pub passed_atoms : AtomsBelow n r
+  unfolding AtomsBelow
+  passed_atoms = ring_atoms n t passed.network r passed.ring
+
+  pub filled_table : DistanceTable n t after
+  filled_table = F.filled refl
+
+  out_with : (c : Tested) → c.answer ≡ accepted → RightValues t r (values c.shortest) c.writing → CandidateOutcome n t r before after c
+  out_with c h s = record {
+    answer = h ∙ F.answer;
+    refused = λ y. absurd (y (ap code h));
+    filled = λ _. filled_table;
+    says = λ _. s;
   }
 
-  module _ (z : a.code ≡ 0) where
-    pub passed : RightCandidate n t r before
-    passed = (accepted_exactly n t r before).0 (ap code (sym e) ∙ z)
+  pub out_no : (c : Tested) (x y : ℕ) → c.answer ≡ accepted → c.shortest ≡ No x y → c.writing ≡ replicate ring_most 0 → FirstPair (λ i j. short n after r i j ≡ true) (length r) x y → CandidateOutcome n t r before after c
+  out_no c x y h s w P = out_with c h (rw s (inr (refl, no_pair n t after filled_table r passed.ring passed_atoms x y P, w)))
 
-    pub passed_atoms : AtomsBelow n r
-    unfolding AtomsBelow
-    passed_atoms = ring_atoms n t passed.network r passed.ring
+  pub out_yes : (c : Tested) → c.answer ≡ accepted → c.shortest ≡ Yes → WritingPadded r c.writing → NoneShort n after r → CandidateOutcome n t r before after c
+  out_yes c h s w none = out_with c h (rw s (inl (refl, refl, refl, yes_shortest n t after filled_table r passed.ring passed_atoms passed.network none, w)))
 
-    module _ (after : List ℕ) (b : Answer) (o : DistancesOutcome n t before after b) where
-      pub filled_table : DistanceTable n t after
-      filled_table = o.filled (ap code (o.answer ∙ accepted_of_distance n t before passed.network passed.room))
-
-      out_with : (c : Tested) → c.answer ≡ a → RightValues t r (values c.shortest) c.writing → CandidateOutcome n t r before after c
-      out_with c h s = record {
-        answer = h ∙ e;
-        refused = λ y. absurd (y (ap code h ∙ z));
-        filled = λ _. filled_table;
-        says = λ _. s;
-      }
-
-      pub out_no : (c : Tested) (x y : ℕ) → c.answer ≡ a → c.shortest ≡ No x y → c.writing ≡ replicate ring_most 0
-          → x ≡ short_place n after r → x < length r → y ≡ short_after n after r x → CandidateOutcome n t r before after c
-      out_no c x y h s w ex l ey = out_with c h (rw s (inr (refl, no_pair n t after filled_table r passed.ring passed_atoms x y ex l ey, w)))
-
-      pub out_yes : (c : Tested) (x : ℕ) → c.answer ≡ a → c.shortest ≡ Yes → WritingPadded r c.writing
-          → x ≡ short_place n after r → length r ≤ x → CandidateOutcome n t r before after c
-      out_yes c x h s w ex l = out_with c h (rw s (inl (refl, refl, refl, yes_shortest n t after filled_table r passed.ring passed_atoms passed.network x ex l, w)))
+pub out_refused : (n : ℕ) (t r before after : List ℕ) (refusal : Refusal) → FillOutcome n t r before after (answer_of refusal) → CandidateOutcome n t r before after (tested_told (Err refusal))
+out_refused n t r before after refusal F = record {
+  answer = F.answer;
+  refused = λ z. (F.refused z, refl, refl);
+  filled = F.filled;
+  says = λ z. absurd (omega (arith, numbered refusal.reason));
+}
 
 -- a shortest-path ring has no pair that is shorter
 not_both : (t r : List ℕ) (i j : ℕ) → ShortestPathRing (Bonded t) 0 r → FirstPair (Shorter t r) (length r) i j → ⊥

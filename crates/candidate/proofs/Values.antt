@@ -1,8 +1,7 @@
 -- The values of an outcome lose nothing: they tell the case of the enum, and its places.
 use mathlib.Core.Path.{◌≡◌, refl, sym, ◌∙◌, ap}
 use Prim.Native.Nat.{ℕ, zero, suc}
-use Rattle.candidate.specs.declared.Shortest.{Shortest}
-use Rattle.candidate.specs.declared.Shortest.TheVariants.{Yes, No, Refused}
+use Rattle.candidate.specs.Told.{Shortest, Yes, No, Refused}
 use Rattle.candidate.specs.CandidateOutcome.{Values, values}
 
 abbrev pub number : Values → ℕ

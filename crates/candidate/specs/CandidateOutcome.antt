@@ -7,15 +7,15 @@
 --   FirstPair Bad k i j         i < j < k is the first bad pair of places, by i and then j
 --   RightValues t r v words     yes: a shortest-path ring, and the words are its one writing;
 --                               no: the first pair that is shorter, and the words are zero
+--   FillOutcome n t r before after a    refused, the buffer is as before; accepted, it is the distance table
 --   CandidateOutcome ..         refused: not one byte is changed, all else is zero;
 --                               not refused: the buffer is the distance table, and what the values say
 use Rattle.std.specs.Prelude.{◌≡◌, ◌⊎◌, List, ℕ, ◌-◌, ◌<◌, length, get_or, replicate}
 use Rattle.graph.specs.Graph.{Distance, around, ShortestPathRing}
 use Rattle.network.specs.Network.{Bonded}
 use Rattle.distance.specs.Distances.{DistanceTable}
-use Rattle.candidate.specs.declared.Shortest.{Shortest}
-use Rattle.candidate.specs.declared.Shortest.TheVariants.{Yes, No, Refused}
-use Rattle.candidate.specs.declared.Tested.{Tested}
+use Rattle.network.specs.declared.Answer.{Answer}
+use Rattle.candidate.specs.Told.{Shortest, Yes, No, Refused, Tested}
 use Rattle.ring.specs.Maxima.{ring_most}
 use Rattle.ring.specs.Writes.{WritingPadded}
 use Rattle.candidate_faults.specs.CandidateVerdict.{candidate_verdict}
@@ -48,6 +48,11 @@ abbrev pub RightValues : List ℕ → List ℕ → Values → List ℕ → Type 
 RightValues t r v words =
     ((v.number ≡ 1) × (v.first ≡ 0) × (v.second ≡ 0) × ShortestPathRing (Bonded t) 0 r × WritingPadded r words)
     ⊎ ((v.number ≡ 2) × FirstPair (Shorter t r) (length r) v.first v.second × (words ≡ replicate ring_most 0))
+
+pub record FillOutcome (n : ℕ) (t r before after : List ℕ) (a : Answer) : Type 0 where
+  pub answer : a ≡ candidate_verdict n t r before
+  pub refused : (a.code ≡ 0 → ⊥) → after ≡ before
+  pub filled : a.code ≡ 0 → DistanceTable n t after
 
 pub record CandidateOutcome (n : ℕ) (t r before after : List ℕ) (c : Tested) : Type 0 where
   pub answer : c.answer ≡ candidate_verdict n t r before

@@ -1,3 +1,4 @@
--- What comes of testing a candidate. Read CandidateOutcome; ShorterPairs computes.
-pub mod ShorterPairs
+-- What comes of testing a candidate. Read CandidateOutcome; ShorterPairs says what the test looks for.
+pub mod Told
 pub mod CandidateOutcome
+pub mod ShorterPairs

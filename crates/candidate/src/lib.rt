@@ -4,54 +4,36 @@
 mod pairs;
 mod writing;
 
-ghost use Rattle.candidate.specs.CandidateOutcome.{CandidateOutcome};
+ghost use Rattle.network.specs.Refusals.{told};
+ghost use Rattle.candidate.specs.Told.{tested_told};
+ghost use Rattle.candidate.specs.CandidateOutcome.{FillOutcome, CandidateOutcome};
 
-use network::Answer;
+use network::Refusal;
 use ring::Ring;
 
-// Whether a candidate is a shortest-path ring; if not, the first pair of its places whose network distance is shorter.
+// What a candidate is found to be: a shortest-path ring, in its one writing, or a cycle with a pair of places whose network distance is
+// shorter, the first.
 #[derive(Clone, Copy)]
-pub enum Shortest {
-    Yes,
-    No(usize, usize),
-    Refused,
-}
-
-// What a test of a candidate says; the words are its one writing at yes, else 0.
-#[derive(Drop)]
-pub struct Tested {
-    pub answer: Answer,
-    pub shortest: Shortest,
-    pub writing: [u16; Ring::LENGTH],
+pub enum Candidate {
+    Ring([u16; Ring::LENGTH]),
+    CutShort(usize, usize),
 }
 
 // Tests one candidate ring, and fills `dist` with the distances unless it is refused: refusals 1, 4, 5, 7 to 11, and 14 to 17.
-pub fn test(n: usize, table: &[u16], ring: &[u16], dist: &mut [u8]) -> Tested
-    ensures { CandidateOutcome n table.now ring.now dist.old dist.new result }
+pub fn test(n: usize, table: &[u16], ring: &[u16], dist: &mut [u8]) -> Result<Candidate, Refusal>
+    ensures { CandidateOutcome n table.now ring.now dist.old dist.new (tested_told result) }
 {
-    let found = candidate_faults::faults_of(n, table, ring, dist);
-    if found.code != 0 {
-        return Tested {
-            answer: found,
-            shortest: Shortest::Refused,
-            writing: [0u16; Ring::LENGTH],
-        };
-    }
-    distance::distances(n, table, dist);
-    let first = pairs::first_short(n, ring, dist);
-    if first < ring.len() {
-        let second = pairs::short_after(n, ring, dist, first);
-        return Tested {
-            answer: found,
-            shortest: Shortest::No(first, second),
-            writing: [0u16; Ring::LENGTH],
-        };
-    }
-    let written = writing::one_writing(ring);
-    let words = written.atoms;
-    Tested {
-        answer: found,
-        shortest: Shortest::Yes,
-        writing: words,
-    }
+    fill(n, table, ring, dist)?;
+    Ok(match pairs::first_short(n, ring, dist) {
+        Some((first, second)) => Candidate::CutShort(first, second),
+        None => Candidate::Ring(writing::one_writing(ring)),
+    })
+}
+
+// Fills `dist` with the distances unless the candidate is refused.
+fn fill(n: usize, table: &[u16], ring: &[u16], dist: &mut [u8]) -> Result<(), Refusal>
+    ensures { FillOutcome n table.now ring.now dist.old dist.new (told result) }
+{
+    candidate_faults::faults_of(n, table, ring, dist)?;
+    distance::distances(n, table, dist)
 }

@@ -1,40 +1,24 @@
 // The first pair of places of a candidate whose network distance is shorter than the ring distance.
-ghost use Rattle.std.specs.Prelude.{◌≡◌, ◌+◌, ◌*◌, ◌≤◌, ◌<◌, length};
+ghost use Rattle.std.specs.Prelude.{◌≡◌, ◌*◌, ◌≤◌, ◌<◌, length};
 ghost use Rattle.network.specs.Maxima.{atoms_most};
-ghost use Rattle.ring.specs.Maxima.{ring_most};
 ghost use Rattle.candidate_faults.specs.CandidateVerdict.{AtomsBelow};
-ghost use Rattle.candidate.specs.ShorterPairs.{short, short_after, short_place};
+ghost use Rattle.candidate.specs.ShorterPairs.{short, FirstShort};
 
 use ring::Ring;
 
-// The first place that is nearer to a later one than round the ring, or the length.
-pub fn first_short(n: usize, ring: &[u16], dist: &[u8]) -> usize
-    requires { (n ≤ atoms_most) × (length ring.now ≤ ring_most) × (length dist.now ≡ n * n) × AtomsBelow n ring.now }
-    ensures { result ≡ short_place n dist.now ring.now }
+// The first two places, by the first and then the second, that are nearer to each other than round the ring.
+pub fn first_short(n: usize, ring: &[u16], dist: &[u8]) -> Option<(usize, usize)>
+    requires { (n ≤ atoms_most) × (length dist.now ≡ n * n) × AtomsBelow n ring.now }
+    ensures { FirstShort n dist.now ring.now result }
 {
-    let mut i = 0;
-    while i < ring.len() {
-        if short_after(n, ring, dist, i) < ring.len() {
-            return i;
+    for i in 0..ring.len() {
+        for j in i + 1..ring.len() {
+            if is_short(n, ring, dist, i, j) {
+                return Some((i, j));
+            }
         }
-        i += 1;
     }
-    i
-}
-
-// The first place after i that is nearer to i than round the ring, or the length.
-pub fn short_after(n: usize, ring: &[u16], dist: &[u8], i: usize) -> usize
-    requires { (n ≤ atoms_most) × (length ring.now ≤ ring_most) × (length dist.now ≡ n * n) × AtomsBelow n ring.now × (i < length ring.now) }
-    ensures { result ≡ short_after n dist.now ring.now i }
-{
-    let mut j = i + 1;
-    while j < ring.len() {
-        if is_short(n, ring, dist, i, j) {
-            return j;
-        }
-        j += 1;
-    }
-    j
+    None
 }
 
 // Whether the atoms at i and j are nearer than round the ring.

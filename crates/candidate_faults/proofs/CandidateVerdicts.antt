@@ -1,157 +1,130 @@
 -- The verdict on a candidate at each way through the checks; it is accepted exactly where the candidate is a ring of 3 to 24
 -- atoms in a network, and the distance buffer has n·n bytes.
-use mathlib.Core.Path.{◌≡◌, refl, sym, ◌∙◌, ap, subst}
-use mathlib.Core.Logic.{◌≢◌, ◌↔◌}
-use mathlib.Core.Bool.{Bool, false}
-use mathlib.Core.List.{List}
-use Prim.Native.Nat.{ℕ, suc, ◌+◌, ◌-◌, ◌*◌, ◌%◌, ◌≤◌, ◌<◌}
-use native.Mathlib.Nat.{mod-eq_of_lt, mod-lt, mod_self}
-use native.Mathlib.Omega.{arith}
-use native.Mathlib.Decide.{dec_le, dec_lt}
-use lib.Dec.{T, eqb}
-use lib.ListN.{length, get_or}
-use borrow.Author.Tests.{lt-ltb, le-ltb, lt-leb, leb-false, ltb-false, eqb-true, eqb-false}
+use Rattle.std.proofs.Common.{◌≡◌, ◌≢◌, ◌↔◌, ◌⊎◌, inl, inr, refl, sym, ◌∙◌, ap, subst, Bool, true, false, eqb, List, ℕ, suc, ◌+◌, ◌-◌, ◌*◌, ◌%◌, ◌≤◌, ◌<◌, length, get_or, take, arith, mod-eq_of_lt, mod-lt, lt-ltb, le-ltb, leb-false, eq-eqb, eqb-true, get_or-take, length-take-le}
+use Rattle.std.proofs.lemmas.Bool.{true≢false, false_from_ne_true, not-false, not_from_true}
+use Rattle.std.proofs.lemmas.List.{get_or_default}
+use Rattle.std.proofs.lemmas.List.Folds.{Any-from_list_any, list_any_at}
+use Rattle.std.proofs.Math.Nat.{mod_self}
+use Rattle.std.proofs.Math.Decide.{dec_lt}
+use Rattle.std.proofs.lemmas.Bool.{lt-leb}
 use Rattle.graph.specs.Graph.{Ring}
 use Rattle.network.specs.declared.Answer.{Answer}
 use Rattle.network.specs.Maxima.{places}
-use Rattle.network.specs.Network.{word, Bonded, IsNetwork}
-use Rattle.network.specs.Verdict.{answer, accepted, refusal, sizes, verdict, faults}
+use Rattle.network.specs.Network.{Bonded, IsNetwork}
+use Rattle.network.specs.Verdict.{answer, accepted, refusal, stands, in_row, sizes, verdict, faults}
 use Rattle.network.specs.Chain.{Check, Sizes, Table}
 use Rattle.network.proofs.Verdicts.{not_refused, not_long_lem, long, sized}
 use Rattle.network.proofs.Chains.{check_long, check_passed, sizes_say, sizes_passed, table_says, table_passed}
-use Rattle.network.proofs.Networks.{network_of, verdict_kept, verdict_passed, right_atoms, right_table, wrong_sizes}
+use Rattle.network.proofs.Networks.{verdict_kept, verdict_passed, right_atoms, right_table, wrong_sizes}
 use Rattle.network.proofs.Bonds.{ring_atoms}
+use Rattle.network.proofs.Stands.{in_row_lem}
+use Rattle.network.proofs.TableFaults.{found, finds}
 use Rattle.ring.specs.Maxima.{ring_least, ring_most}
+use Rattle.ring.specs.Writes.{not_ring}
+use Rattle.ring.proofs.Readers.{long_enough, right_length}
 use Rattle.candidate_faults.specs.Firsts.{first_of}
-use Rattle.ring.specs.Writes.{not_ring, length_of}
-use Rattle.candidate_faults.specs.CandidateVerdict.{not_atom, first_with, seen_before, place_of, not_bonded, first_place, ring_verdict, candidate_verdict, AtomsBelow}
+use Rattle.candidate_faults.specs.CandidateVerdict.{not_atom, seen_before, not_bonded, first_place, ring_verdict, candidate_verdict}
 use Rattle.candidate_faults.specs.RightCandidate.{RightCandidate}
-use Rattle.candidate_faults.proofs.Firsts.{first_of_lem}
-use Rattle.ring.proofs.Readers.{long_enough, no_length, some_length, right_length}
+use Rattle.candidate_faults.proofs.Firsts.{first_of_lem, first_is}
 
 abbrev code : Answer → ℕ
 code a = a.code
 
--- one check of all places
-place_found : (c k : ℕ) (bad : ℕ → Bool) (later : Answer) (x : ℕ) → x ≡ first_of bad k 0 → x < k → first_place c bad k later ≡ answer c 0 x
-place_found c k bad later x e l = rw (← e) (simp (lt-ltb _ _ l))
+-- one check of all places: it refuses at the first bad one, and where there is none what comes later decides
+module _ (c k : ℕ) (bad : ℕ → Bool) where
+  pub place_found : (x : ℕ) → x < k → bad x ≡ true → ((i : ℕ) → i < x → bad i ≡ false) → (later : Answer) → first_place c bad k later ≡ answer c 0 x
+  place_found x l h none later = rw (← first_is bad k x (omega arith) (λ _. h) none) (simp (lt-ltb _ _ l))
 
-place_clean : (c k : ℕ) (bad : ℕ → Bool) (later : Answer) (x : ℕ) → x ≡ first_of bad k 0 → k ≤ x → first_place c bad k later ≡ later
-place_clean c k bad later x e l = rw (← e) (simp (le-ltb _ _ l))
+  pub place_clean : ((i : ℕ) → i < k → bad i ≡ false) → (later : Answer) → first_place c bad k later ≡ later
+  place_clean none later = let e : k ≤ k = omega arith in rw (← first_is bad k k e (λ l. absurd (omega arith)) none) (simp (le-ltb _ _ e))
 
--- 14 to 17; m is what the constructor of rings gives for the length
-module _ (n : ℕ) (t r : List ℕ) (a : Answer) (m : ℕ) (e : m ≡ length_of (length r)) where
-  pub says_14 : m ≡ 0 → a ≡ refusal 14 → a ≡ ring_verdict n t r
-  unfolding ring_verdict
-  says_14 z h = h ∙ sym (rw (no_length (length r) m e z))
-
-  module _ (z : m ≡ 0 → ⊥) where
-    size : not_ring (length r) ≡ false
-    size = some_length (length r) m e z
-
-    module _ (x : ℕ) (ex : x ≡ first_of (not_atom n r) (length r) 0) where
-      pub says_15 : x < length r → a ≡ answer 15 0 x → a ≡ ring_verdict n t r
-      unfolding ring_verdict
-      says_15 l h = h ∙ sym (rw size (place_found 15 (length r) (not_atom n r) _ x ex l))
-
-      module _ (lx : length r ≤ x) (y : ℕ) (ey : y ≡ first_of (seen_before r) (length r) 0) where
-        clean_15 : (later : Answer) → first_place 15 (not_atom n r) (length r) later ≡ later
-        clean_15 later = place_clean 15 (length r) (not_atom n r) later x ex lx
-
-        pub says_16 : y < length r → a ≡ answer 16 0 y → a ≡ ring_verdict n t r
-        unfolding ring_verdict
-        says_16 l h = h ∙ sym (rw size (clean_15 _ ∙ place_found 16 (length r) (seen_before r) _ y ey l))
-
-        module _ (ly : length r ≤ y) (w : ℕ) (ew : w ≡ first_of (not_bonded t r) (length r) 0) where
-          clean_16 : (later : Answer) → first_place 16 (seen_before r) (length r) later ≡ later
-          clean_16 later = place_clean 16 (length r) (seen_before r) later y ey ly
-
-          pub says_17 : w < length r → a ≡ answer 17 0 w → a ≡ ring_verdict n t r
-          unfolding ring_verdict
-          says_17 l h = h ∙ sym (rw size (clean_15 _ ∙ clean_16 _ ∙ place_found 17 (length r) (not_bonded t r) _ w ew l))
-
-          pub says_ring : length r ≤ w → a ≡ accepted → a ≡ ring_verdict n t r
-          unfolding ring_verdict
-          says_ring l h = h ∙ sym (rw size (clean_15 _ ∙ clean_16 _ ∙ place_clean 17 (length r) (not_bonded t r) _ w ew l))
-
--- all checks; s is the answer of the sizes
-module _ (n : ℕ) (t r d : List ℕ) where
-  verdict_rest : length d ≡ n * n → candidate_verdict n t r d ≡ sizes n t (λ b. b) (faults n t (ring_verdict n t r))
-  unfolding candidate_verdict
-  verdict_rest h = rw (long d (n * n) h) refl
-
-  module _ (a : Answer) where
-    pub says_sizes : a ≡ sizes n t (λ b. b) accepted → (a.code ≡ 0 → ⊥) → a ≡ candidate_verdict n t r d
-    unfolding candidate_verdict
-    says_sizes e z = wrong_sizes n t a e z _
-
-    pub says_5 : (s : Answer) → s ≡ sizes n t (λ b. b) accepted → s.code ≡ 0 → a ≡ refusal 5 → (length d ≡ n * n → ⊥) → a ≡ candidate_verdict n t r d
-    unfolding candidate_verdict
-    says_5 s e z h l = h ∙ sym (sized n t (right_atoms n t s e z) (right_table n t s e z) _ ∙ rw (not_long_lem d (n * n) l) refl)
-
-    module _ (room : length d ≡ n * n) where
-      pub says_faults : a ≡ verdict n t → (a.code ≡ 0 → ⊥) → a ≡ candidate_verdict n t r d
-      says_faults h z = h ∙ sym (verdict_rest room ∙ verdict_kept n t (ring_verdict n t r) (λ y. z (ap code h ∙ y)))
-
-      pub says_rest : (b : Answer) → b ≡ verdict n t → b.code ≡ 0 → a ≡ ring_verdict n t r → a ≡ candidate_verdict n t r d
-      says_rest b h y k = k ∙ sym (verdict_rest room ∙ verdict_passed n t (ring_verdict n t r) (network_of n t (ap code (sym h) ∙ y)))
-
--- no place is bad
-module _ (bad : ℕ → Bool) (k : ℕ) where
-  pub none_bad : (x : ℕ) → x ≡ first_of bad k 0 → k ≤ x → (i : ℕ) → i < k → bad i ≡ false
-  none_bad x e l i m = (first_of_lem bad k 0).none i (omega arith) (omega (arith, e))
-
-  all_good : ((i : ℕ) → i < k → bad i ≡ false) → k ≤ first_of bad k 0
-  all_good f =
+  pub place_cases : ((x : ℕ) × (x < k) × (bad x ≡ true) × ((i : ℕ) → i < x → bad i ≡ false)) ⊎ ((i : ℕ) → i < k → bad i ≡ false)
+  place_cases =
       let F = first_of_lem bad k 0 in
-      elim (dec_le k (first_of bad k 0)) [
-        | yes l ↦ l
-        | no l ↦ absurd (subst T (sym (F.here (omega arith)) ∙ f (first_of bad k 0) (omega arith)) tt)
+      elim (dec_lt (first_of bad k 0) k) [
+        | yes l ↦ inl (first_of bad k 0, l, F.here (omega arith), λ i. F.none i (omega arith))
+        | no l ↦ inr (λ i m. F.none i (omega arith) (omega arith))
       ]
 
-pub atoms_below : (n : ℕ) (r : List ℕ) (x : ℕ) → x ≡ first_of (not_atom n r) (length r) 0 → length r ≤ x → AtomsBelow n r
-unfolding AtomsBelow
-atoms_below n r x e l i m = leb-false n (get_or r i 0) (none_bad (not_atom n r) (length r) x e l i m)
+  place_kept : (a : Answer) → a ≡ first_place c bad k accepted → (a.code ≡ 0 → ⊥) → (later : Answer) → a ≡ first_place c bad k later
+  place_kept a e z later = elim place_cases [
+    | inl f ↦ e ∙ place_found f.0 f.1 f.2 f.3 accepted ∙ sym (place_found f.0 f.1 f.2 f.3 later)
+    | inr none ↦ absurd (z (ap code (e ∙ place_clean none accepted)))
+  ]
 
--- the row of each atom stands in the table
-pub row_inside : (n : ℕ) (t r : List ℕ) (i : ℕ) → length t ≡ places * n → AtomsBelow n r → i < length r → get_or r i 0 * places + places ≤ length t
-unfolding AtomsBelow
-row_inside n t r i whole below l = omega (arith, whole, below i l)
+  place_passed : (c ≡ 0 → ⊥) → accepted ≡ first_place c bad k accepted → (later : Answer) → first_place c bad k later ≡ later
+  place_passed s e later = elim place_cases [
+    | inl f ↦ absurd (s (sym (ap code (e ∙ place_found f.0 f.1 f.2 f.3 accepted))))
+    | inr none ↦ place_clean none later
+  ]
 
--- a row holds an atom where the search through it stops
-module _ (n : ℕ) (t : List ℕ) (N : IsNetwork n t) (x y : ℕ) where
-  pub bonded_of : x < n → y < n → place_of t x y < places → Bonded t x y
-  bonded_of lx ly l =
-      let F = first_of_lem (λ p. eqb (word t x p) y) places 0 in
-      record {
-        place = place_of t x y;
-        within_row = l;
-        in_table = omega (arith, N.whole);
-        stands = eqb-true (word t x (place_of t x y)) y (F.here l);
-        atom = λ e. omega (arith, N.counted.most);
-      }
+-- 14 to 17: a refusal ends the checks, and after one that accepts comes the next
+pub says_14 : (n : ℕ) (t r : List ℕ) → not_ring (length r) ≡ true → refusal 14 ≡ ring_verdict n t r
+unfolding ring_verdict
+says_14 n t r h = rw h refl
 
-  pub of_bonded : Bonded t x y → place_of t x y < places
-  of_bonded b =
-      let F = first_of_lem (λ p. eqb (word t x p) y) places 0 in
-      elim (dec_lt (place_of t x y) places) [
-        | yes l ↦ l
-        | no l ↦ absurd (eqb-false (word t x b.place) y (F.none b.place (omega arith) (omega (arith, b.within_row))) b.stands)
-      ]
+module _ (n : ℕ) (t r : List ℕ) (size : not_ring (length r) ≡ false) where
+  pub says_15 : (a : Answer) → a ≡ first_place 15 (not_atom n r) (length r) accepted → (a.code ≡ 0 → ⊥) → a ≡ ring_verdict n t r
+  unfolding ring_verdict
+  says_15 a e z = rw size (place_kept _ _ _ a e z _)
+
+  module _ (clean_15 : accepted ≡ first_place 15 (not_atom n r) (length r) accepted) where
+    pub says_16 : (a : Answer) → a ≡ first_place 16 (seen_before r) (length r) accepted → (a.code ≡ 0 → ⊥) → a ≡ ring_verdict n t r
+    unfolding ring_verdict
+    says_16 a e z = rw (size, place_passed _ _ _ (omega arith) clean_15) (place_kept _ _ _ a e z _)
+
+    pub says_17 : accepted ≡ first_place 16 (seen_before r) (length r) accepted → (a : Answer) → a ≡ first_place 17 (not_bonded t r) (length r) accepted → a ≡ ring_verdict n t r
+    unfolding ring_verdict
+    says_17 clean_16 a e = rw (size, place_passed _ _ _ (omega arith) clean_15, place_passed _ _ _ (omega arith) clean_16) e
+
+-- all checks, in the same way
+module _ (n : ℕ) (t r d : List ℕ) where
+  pub says_sizes : (a : Answer) → a ≡ sizes n t (λ b. b) accepted → (a.code ≡ 0 → ⊥) → a ≡ candidate_verdict n t r d
+  unfolding candidate_verdict
+  says_sizes a e z = wrong_sizes n t a e z _
+
+  pub says_5 : accepted ≡ sizes n t (λ b. b) accepted → (length d ≡ n * n → ⊥) → refusal 5 ≡ candidate_verdict n t r d
+  unfolding candidate_verdict
+  says_5 e l = sym (sized n t (right_atoms n t accepted e refl) (right_table n t accepted e refl) _ ∙ rw (not_long_lem d (n * n) l) refl)
+
+  module _ (room : length d ≡ n * n) where
+    verdict_rest : candidate_verdict n t r d ≡ sizes n t (λ b. b) (faults n t (ring_verdict n t r))
+    unfolding candidate_verdict
+    verdict_rest = rw (long d (n * n) room) refl
+
+    pub says_faults : (a : Answer) → a ≡ verdict n t → (a.code ≡ 0 → ⊥) → a ≡ candidate_verdict n t r d
+    says_faults a e z = e ∙ sym (verdict_rest ∙ verdict_kept n t (ring_verdict n t r) (λ y. z (ap code e ∙ y)))
+
+    pub says_rest : IsNetwork n t → (a : Answer) → a ≡ ring_verdict n t r → a ≡ candidate_verdict n t r d
+    says_rest N a e = e ∙ sym (verdict_rest ∙ verdict_passed n t (ring_verdict n t r) N)
+
+-- whether one atom stands in the row of another
+module _ (n : ℕ) (t : List ℕ) (N : IsNetwork n t) (x y : ℕ) (lx : x < n) where
+  looked : in_row t y x ≡ stands t y x places 0
+  looked = in_row_lem t y x (omega (arith, N.whole)) (in_row t y x) refl
+
+  pub bonded_of : y < n → in_row t y x ≡ true → Bonded t x y
+  bonded_of ly h =
+      let q = found t y x places 0 (sym looked ∙ h) in
+      record { place = q.0; within_row = omega (arith, q.1); in_table = omega (arith, q.1, N.whole); stands = q.2; atom = λ e. omega (arith, N.counted.most) }
+
+  pub of_bonded : Bonded t x y → in_row t y x ≡ true
+  of_bonded b = looked ∙ finds t y x places 0 b.place (omega arith) (omega (arith, b.within_row)) b.stands
 
 -- 16: none stands earlier
-pub different_of : (r : List ℕ) (j : ℕ) → seen_before r j ≡ false → (i : ℕ) → i < j → get_or r i 0 ≢ get_or r j 0
-different_of r j h i l e =
-    let F = first_of_lem (λ i. eqb (get_or r i 0) (get_or r j 0)) j 0 in
-    eqb-false (get_or r i 0) (get_or r j 0) (F.none i (omega arith) (omega (arith, ltb-false (first_with r j) j h))) e
+pub different_of : (r : List ℕ) (j : ℕ) → j < length r → seen_before r j ≡ false → (i : ℕ) → i < j → get_or r i 0 ≢ get_or r j 0
+different_of r j m h i l e =
+    let same : eqb (get_or (take j r) i 0) (get_or r j 0) ≡ true = rw (get_or-take j r i 0 l) (eq-eqb _ _ e) in
+    absurd (true≢false (sym (list_any_at (λ x. eqb x (get_or r j 0)) (take j r) i 0 (omega (arith, length-take-le j r)) same) ∙ h))
 
-pub of_different : (r : List ℕ) (j : ℕ) → ((i : ℕ) → i < j → get_or r i 0 ≢ get_or r j 0) → seen_before r j ≡ false
-of_different r j h =
-    let F = first_of_lem (λ i. eqb (get_or r i 0) (get_or r j 0)) j 0 in
-    elim (dec_lt (first_with r j) j) [
-      | yes l ↦ absurd (h (first_with r j) l (eqb-true (get_or r (first_with r j) 0) (get_or r j 0) (F.here (omega arith))))
-      | no l ↦ le-ltb (first_with r j) j (omega arith)
-    ]
+pub seen_at : (r : List ℕ) (j : ℕ) → j < length r → seen_before r j ≡ true → (i : ℕ) × (i < j) × (get_or r i 0 ≡ get_or r j 0)
+seen_at r j m h =
+    let s = Any-from_list_any (λ x. eqb x (get_or r j 0)) (take j r) h in
+    let l : s.0 < j = omega (arith, s.2, length-take-le j r) in
+    (s.0, l, sym (get_or-take j r s.0 0 l) ∙ get_or_default (take j r) s.0 0 s.1 s.2 ∙ s.3 ∙ eqb-true _ _ s.4)
+
+pub of_different : (r : List ℕ) (j : ℕ) → j < length r → ((i : ℕ) → i < j → get_or r i 0 ≢ get_or r j 0) → seen_before r j ≡ false
+of_different r j m h = false_from_ne_true _ (λ e. let s = seen_at r j m e in h s.0 s.1 s.2)
 
 -- 14 to 17 are not given exactly to rings
 module _ (n : ℕ) (t : List ℕ) (N : IsNetwork n t) (r : List ℕ) where
@@ -168,11 +141,11 @@ module _ (n : ℕ) (t : List ℕ) (N : IsNetwork n t) (r : List ℕ) where
     once : (i : ℕ) → i < length r → seen_before r i ≡ false
     joined : (i : ℕ) → i < length r → not_bonded t r i ≡ false
 
-  ring_of : Sound → Ring (Bonded t) 0 r × (length r ≤ ring_most)
-  ring_of S = (
+  ring_there : Sound → Ring (Bonded t) 0 r × (length r ≤ ring_most)
+  ring_there S = (
     record {
       three = three;
-      different = λ i j l m. different_of r j (S.once j m) i l;
+      different = λ i j l m. different_of r j m (S.once j m) i l;
       next = λ i l. subst (λ y. Bonded t (get_or r i 0) (get_or r y 0)) (next_place i l) (bond i (omega arith));
       closes = subst (λ y. Bonded t (get_or r (length r - 1) 0) (get_or r y 0)) (last_place (length r) (omega (arith, three))) (bond (length r - 1) (omega (arith, three)));
     },
@@ -186,14 +159,14 @@ module _ (n : ℕ) (t : List ℕ) (N : IsNetwork n t) (r : List ℕ) where
       below i l = leb-false n (get_or r i 0) (S.inside i l)
 
       bond : (i : ℕ) → i < length r → Bonded t (get_or r i 0) (get_or r ((i + 1) % length r) 0)
-      bond i l = bonded_of n t N (get_or r i 0) (get_or r ((i + 1) % length r) 0) (below i l) (below ((i + 1) % length r) (mod-lt (i + 1) (omega arith))) (leb-false places _ (S.joined i l))
+      bond i l = bonded_of n t N (get_or r i 0) (get_or r ((i + 1) % length r) 0) (below i l) (below ((i + 1) % length r) (mod-lt (i + 1) (omega arith))) (not-false _ (S.joined i l))
 
   of_ring : Ring (Bonded t) 0 r → length r ≤ ring_most → Sound
   of_ring R most = record {
     size = long_enough (length r) R.three most;
     inside = λ i l. lt-leb n (get_or r i 0) (ring_atoms n t N r R i l);
-    once = λ j m. of_different r j (λ i l. R.different i j l m);
-    joined = λ i l. lt-leb places _ (of_bonded n t N _ _ (bond i l));
+    once = λ j m. of_different r j m (λ i l. R.different i j l m);
+    joined = λ i l. not_from_true _ (of_bonded n t N _ _ (ring_atoms n t N r R i l) (bond i l));
   }
     where
       bond : (i : ℕ) → i < length r → Bonded t (get_or r i 0) (get_or r ((i + 1) % length r) 0)
@@ -206,18 +179,13 @@ module _ (n : ℕ) (t : List ℕ) (N : IsNetwork n t) (r : List ℕ) where
 
   sound_says : Sound → ring_verdict n t r ≡ accepted
   unfolding ring_verdict
-  sound_says S =
-      rw S.size
-      (place_clean 15 (length r) (not_atom n r) _ _ refl (all_good (not_atom n r) (length r) S.inside)
-      ∙ place_clean 16 (length r) (seen_before r) _ _ refl (all_good (seen_before r) (length r) S.once)
-      ∙ place_clean 17 (length r) (not_bonded t r) _ _ refl (all_good (not_bonded t r) (length r) S.joined))
+  sound_says S = rw S.size (place_clean 15 _ _ S.inside _ ∙ place_clean 16 _ _ S.once _ ∙ place_clean 17 _ _ S.joined _)
 
   places_passed : (c k : ℕ) (bad : ℕ → Bool) (later : Answer) → (c ≡ 0 → ⊥) → (first_place c bad k later).code ≡ 0 → ((i : ℕ) → i < k → bad i ≡ false) × (later.code ≡ 0)
-  places_passed c k bad later z e =
-      elim (dec_lt (first_of bad k 0) k) [
-        | yes l ↦ absurd (z (sym (ap code (place_found c k bad later _ refl l)) ∙ e))
-        | no l ↦ (none_bad bad k _ refl (omega arith), sym (ap code (place_clean c k bad later _ refl (omega arith))) ∙ e)
-      ]
+  places_passed c k bad later z e = elim (place_cases c k bad) [
+    | inl f ↦ absurd (z (sym (ap code (place_found c k bad f.0 f.1 f.2 f.3 later)) ∙ e))
+    | inr none ↦ (none, sym (ap code (place_clean c k bad none later)) ∙ e)
+  ]
 
   sound_of : (ring_verdict n t r).code ≡ 0 → Sound
   unfolding ring_verdict
@@ -229,7 +197,7 @@ module _ (n : ℕ) (t : List ℕ) (N : IsNetwork n t) (r : List ℕ) where
       record { size = a.0; inside = b.0; once = c.0; joined = d.0 }
 
   pub ring_exactly : ((ring_verdict n t r).code ≡ 0) ↔ (Ring (Bonded t) 0 r × (length r ≤ ring_most))
-  ring_exactly = (λ z. ring_of (sound_of z), λ h. ap code (sound_says (of_ring h.0 h.1)))
+  ring_exactly = (λ z. ring_there (sound_of z), λ h. ap code (sound_says (of_ring h.0 h.1)))
 
 module _ (n : ℕ) (t r d : List ℕ) where
   -- the checks of the candidate come last

@@ -1,20 +1,13 @@
 -- The checks, counting and listing have one outcome each, and counting answers what listing would.
-use mathlib.Core.Path.{◌≡◌, refl, sym, ◌∙◌, ap}
-use mathlib.Core.Bool.{Bool, true, false}
-use mathlib.Core.List.{List}
-use Prim.Native.Nat.{ℕ, ◌≤◌}
-use native.Mathlib.Omega.{arith}
+use Rattle.std.proofs.Common.{◌≡◌, refl, sym, ◌∙◌, ap, Bool, true, false, List, ℕ, ◌≤◌, arith, ltb, length, le-ltb}
 use native.Mathlib.Decide.{ℕ_discrete}
-use lib.Dec.{ltb}
-use lib.ListN.{length}
-use borrow.Author.Tests.{le-ltb}
 use Rattle.graph.specs.Listing.{RingListing}
 use Rattle.graph.proofs.Listings.{ring_listing_unique}
 use Rattle.network.specs.declared.Answer.{Answer}
 use Rattle.network.specs.Network.{Bonded}
 use Rattle.network.specs.Verdict.{check, accepted}
 use Rattle.distance.proofs.Outcomes.{table_unique}
-use Rattle.census.specs.declared.Census.{Census}
+use Rattle.census.specs.Told.{Census}
 use Rattle.census.specs.Census.{encode, limit_of, before_search, after_count, after_list, settle, settled, SearchReached, SearchOutcome, ListingOutcome, CensusOutcome, CountOutcome, ListOutcome}
 use Rattle.census.specs.Prepared.{Prepared}
 use Rattle.census.proofs.Settled.{code, unrefused, reached}

@@ -1,18 +1,14 @@
 -- What a census tells: whether the search was reached; accepted, that its numbers are those of the rings, which were not too many and
 -- had room; refused after the search, the search's answer.
-use mathlib.Core.Path.{◌≡◌, refl, sym, ◌∙◌, ap}
-use mathlib.Core.Bool.{Bool, true, false}
-use mathlib.Core.List.{List, [], ◌∷◌}
-use Prim.Native.Nat.{ℕ, ◌≤◌}
-use native.Mathlib.Omega.{arith}
+use Rattle.std.proofs.Common.{◌≡◌, Result, Ok, Err, refl, sym, ◌∙◌, ap, Bool, true, false, List, [], ◌∷◌, ℕ, ◌≤◌, arith, ltb, length, length-append, ltb-false, eq-eqb, ne_eqb}
 use native.Mathlib.Decide.{ℕ_discrete}
-use lib.Dec.{ltb}
-use lib.ListN.{length, length-append}
-use borrow.Author.Tests.{ltb-false, eq-eqb, ne_eqb}
 use Rattle.graph.specs.Counts.{words_of}
 use Rattle.network.specs.declared.Answer.{Answer}
 use Rattle.network.specs.Verdict.{check, accepted}
-use Rattle.census.specs.declared.Census.{Census}
+use Rattle.network.specs.declared.refusals.Refusal.{Refusal}
+use Rattle.network.proofs.Refused.{numbered}
+use Rattle.census.specs.declared.Histogram.{Histogram}
+use Rattle.census.specs.Told.{Census, histogram_told}
 use Rattle.census.specs.Census.{encode_by, encode, after_count, after_list_by, settle, SearchReached, SearchOutcome}
 
 abbrev pub code : Census → ℕ
@@ -77,3 +73,10 @@ pub encode_words : (rings : List (List ℕ)) → length (encode rings) ≡ words
 unfolding encode_by
 encode_words [] = refl
 encode_words (r ∷ rings) = omega (arith, encode_words rings, length-append r (encode rings))
+
+-- an outcome, and the code of what it tells
+pub refused_code : (outcome : Result Histogram Refusal) (refusal : Refusal) → outcome ≡ Err refusal → code (histogram_told outcome) ≡ 0 → ⊥
+refused_code outcome refusal e z = absurd (omega (arith, numbered refusal.reason, ap (λ (o : Result Histogram Refusal). code (histogram_told o)) e))
+
+pub accepted_code : (outcome : Result Histogram Refusal) (h : Histogram) → outcome ≡ Ok h → code (histogram_told outcome) ≡ 0
+accepted_code outcome h e = ap (λ (o : Result Histogram Refusal). code (histogram_told o)) e

@@ -14,7 +14,6 @@
 --   after_count allowance rings  12: more rings than the allowance
 --   after_list_by words allowance room rings  12, then 13: more words than there is room for
 --   after_list allowance room rings   the same of rings of atoms
---   no_census a                  what a call refused with the answer a says: every number is 0
 --   settle a c                   the census c, or a refusal, as the answer a has it
 --   settled n limit a rings      the same of the census of rings of atoms
 --   SearchReached ..             the lent buffers are Filled, and the census is that of the listing
@@ -26,7 +25,7 @@
 --   CensusOutcome ..             counting or listing them: refused before the search, nothing is changed; otherwise it is searched
 --   CountOutcome ..              what comes of counting
 --   ListOutcome ..               what comes of listing
-use Rattle.std.specs.Prelude.{◌≡◌, Bool, ◌&&◌, ◌||◌, not, cond, List, [], ◌∷◌, ◌++◌, map, ℕ, ◌+◌, ◌*◌, eqb, leb, ltb, length, replicate}
+use Rattle.std.specs.Prelude.{◌≡◌, Bool, ◌&&◌, ◌||◌, not, cond, List, [], ◌∷◌, ◌++◌, map, ℕ, ◌+◌, ◌*◌, eqb, leb, ltb, length}
 use Rattle.std.proofs.lemmas.List.Edits.{sets}
 use Rattle.graph.specs.Lists.{numbers_from}
 use Rattle.graph.specs.Counts.{having, sum_of}
@@ -36,8 +35,8 @@ use Rattle.network.specs.Network.{Bonded}
 use Rattle.network.specs.Verdict.{check, not_long, sizes, faults, accepted}
 use Rattle.distance.specs.Distances.{DistanceTable}
 use Rattle.ring.specs.Maxima.{ring_least, ring_most, limit_default, allowance_most}
-use Rattle.census.specs.declared.Census.{Census}
-use Rattle.averages.specs.Averages.{averages_of, no_averages}
+use Rattle.census.specs.Told.{Census, no_census}
+use Rattle.averages.specs.Averages.{averages_of}
 
 unfoldable pub limit_of : ℕ → ℕ
 limit_of limit = cond (eqb limit 0) limit_default limit
@@ -92,16 +91,6 @@ after_list_by words allowance room rings = check 12 (ltb allowance (length rings
 
 abbrev pub after_list : ℕ → ℕ → List (List ℕ) → Answer
 after_list = after_list_by encode
-
-abbrev pub no_census : Answer → Census
-no_census a = record {
-  answer = a;
-  limit = 0;
-  counts = replicate (ring_most + 1) 0;
-  total = 0;
-  words = 0;
-  averages = no_averages;
-}
 
 abbrev pub settle : Answer → Census → Census
 settle a c = cond (eqb a.code 0) c (no_census a)

@@ -4,16 +4,14 @@
 pub mod checks;
 
 ghost use Rattle.std.specs.Prelude.{◌≡◌};
-ghost use Rattle.census.specs.Census.{no_census};
+ghost use Rattle.census.specs.Told.{no_numbers};
 
 use averages::Averages;
-use network::Answer;
 use ring::Ring;
 
-// What counting and listing answer.
+// The ring histogram, which counting and listing answer.
 #[derive(Drop)]
-pub struct Census {
-    pub answer: Answer,
+pub struct Histogram {
     // The limit used.
     pub limit: usize,
     // The number of rings of each length.
@@ -25,19 +23,17 @@ pub struct Census {
     pub averages: Averages,
 }
 
-impl Census {
-    // What a refused call says.
-    pub fn refused(answer: Answer) -> Census
-        ensures { result ≡ no_census answer }
+impl Histogram {
+    // What is told of a call that is refused: every number is 0.
+    pub fn none() -> Histogram
+        ensures { result ≡ no_numbers }
     {
-        let averages = averages::no_averages();
-        Census {
-            answer,
+        Histogram {
             limit: 0,
-            counts: [0u32; Ring::LENGTH + 1],
+            counts: [0; Ring::LENGTH + 1],
             total: 0,
             words: 0,
-            averages,
+            averages: averages::no_averages(),
         }
     }
 }

@@ -22,7 +22,7 @@ use Rattle.examples.proofs.NearMisses.{near_misses_ruled_out}
 use Rattle.examples.proofs.Repeats.{repeats_ruled_out}
 use Rattle.examples.proofs.Counts.{by_length_same}
 use Rattle.ring.specs.Maxima.{ring_least, ring_most}
-use Rattle.census.specs.declared.Census.{Census}
+use Rattle.census.specs.Told.{Census}
 use Rattle.census.specs.Census.{limit_of, encode, counts_of}
 use Rattle.census.proofs.Passed.{limit_given}
 use Rattle.census.proofs.Settled.{encode_words}

@@ -13,9 +13,9 @@ use Rattle.network.proofs.Networks.{network_of, verdict_says}
 use Rattle.distance.specs.Outcome.{DistancesOutcome}
 use Rattle.distance.proofs.Outcomes.{distances_says}
 use Rattle.candidate_faults.proofs.FirstPlaces.{candidate_says}
-use Rattle.candidate.specs.declared.Tested.{Tested}
+use Rattle.candidate.specs.Told.{Tested}
 use Rattle.candidate.specs.CandidateOutcome.{CandidateOutcome}
-use Rattle.census.specs.declared.Census.{Census}
+use Rattle.census.specs.Told.{Census}
 use Rattle.census.specs.Census.{CountOutcome, ListOutcome}
 use Rattle.census.proofs.Settled.{reached}
 use Rattle.renumber.specs.Outcome.{RenumberOutcome}

@@ -1,10 +1,5 @@
 -- One list of rings, and so one census and one list buffer, are what is demanded of a search that is accepted.
-use mathlib.Core.Path.{◌≡◌, refl, sym, ◌∙◌, ap, subst}
-use mathlib.Core.List.{List, ◌++◌}
-use Prim.Native.Nat.{ℕ}
-use native.Mathlib.Omega.{arith}
-use lib.Ieee.{Float}
-use lib.ListN.{length, drop}
+use Rattle.std.proofs.Common.{◌≡◌, refl, sym, ◌∙◌, ap, subst, List, ◌++◌, ℕ, arith, Float, Option, length, drop}
 use Rattle.graph.specs.Counts.{lengths_of, words_of}
 use Rattle.graph.specs.Listing.{RingListing}
 use Rattle.graph.proofs.Listings.{ring_order_strict, ring_listing_unique}
@@ -14,8 +9,7 @@ use Rattle.graph.proofs.Writings.{writing_unique}
 use Rattle.network.specs.declared.Answer.{Answer}
 use Rattle.network.specs.Network.{Bonded}
 use Rattle.network.specs.Verdict.{accepted}
-use Rattle.census.specs.declared.Census.{Census}
-use Rattle.averages.specs.declared.Mean.{Mean}
+use Rattle.census.specs.Told.{Census}
 use Rattle.averages.specs.Averages.{quotient, mean_of}
 use Rattle.averages.proofs.MeanValues.{mean_told}
 use Rattle.census.proofs.Settled.{encode_words}
@@ -27,7 +21,7 @@ told_listing n t limit c A = subst (λ k. RingListing (Bonded t) k A.rings) A.us
     (listing_of ring_order_strict c.limit A.rings (λ r h. reading_self 0 r (omega arith)) (λ r s u h R U v w. writing_unique r s u R U v w h) A.stand)
 
 -- so its numbers are those of the one list
-abbrev numbered : Answer → ℕ → List ℕ → ℕ → ℕ → Float → Mean → Census
+abbrev numbered : Answer → ℕ → List ℕ → ℕ → ℕ → Float → Option Float → Census
 numbered a limit counts total words per_atom mean = record { answer = a; limit = limit; counts = counts; total = total; words = words; averages = record { per_atom = per_atom; mean = mean } }
 
 told_census_lem : (n : ℕ) (t : List ℕ) (limit : ℕ) (c : Census) (A : AcceptedCount n t limit c)

@@ -17,11 +17,10 @@ use Rattle.distance.specs.Outcome.{DistancesOutcome}
 use Rattle.distance.proofs.Outcomes.{distances_says, table_unique}
 use Rattle.distance.proofs.Outcomes as distance_proofs
 use Rattle.candidate_faults.proofs.FirstPlaces.{candidate_says}
-use Rattle.candidate.specs.declared.Tested.{Tested}
+use Rattle.candidate.specs.Told.{Tested}
 use Rattle.candidate.specs.CandidateOutcome.{CandidateOutcome}
 use Rattle.candidate.proofs.Outcomes as candidate
-use Rattle.census.specs.declared.Census.{Census}
-use Rattle.census.specs.Census.{no_census}
+use Rattle.census.specs.Told.{Census, no_census}
 use Rattle.renumber.specs.Outcome.{RenumberOutcome}
 use Rattle.renumber.proofs.Outcomes.{renumber_says}
 use Rattle.renumber.proofs.OneOutcome.{one_outcome}

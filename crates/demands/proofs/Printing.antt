@@ -9,7 +9,7 @@ use lib.Seq.{take_at}
 use Rattle.network.specs.declared.Answer.{Answer}
 use Rattle.network.specs.Maxima.{places}
 use Rattle.network.specs.Network.{IsNetwork}
-use Rattle.census.specs.declared.Census.{Census}
+use Rattle.census.specs.Told.{Census}
 use Rattle.census.specs.Census.{encode}
 use Rattle.bonds.specs.declared.Reading.{Reading}
 use Rattle.bonds.specs.Bonds.{Bond}

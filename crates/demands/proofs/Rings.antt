@@ -9,7 +9,7 @@ use Rattle.graph.proofs.Writings.{one_each}
 use Rattle.graph.proofs.Standing.{stand_exactly}
 use Rattle.network.specs.Network.{Bonded, IsNetwork}
 use Rattle.network.proofs.Bonds.{bonded_back}
-use Rattle.census.specs.declared.Census.{Census}
+use Rattle.census.specs.Told.{Census}
 use Rattle.census.specs.Census.{limit_of, encode, counts_by, census_of, after_count, after_list, CountOutcome, ListOutcome}
 use Rattle.census.proofs.Settled.{reached, told_count, encode_words}
 use Rattle.demands.specs.Rings.{Numbers, AcceptedCount, AcceptedListing}

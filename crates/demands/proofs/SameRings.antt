@@ -14,11 +14,10 @@ use Rattle.renumber.specs.Carried.{RingsRenumbered}
 use Rattle.renumber.proofs.Outcomes.{accepts}
 use Rattle.renumber.proofs.Carried.{call_carries}
 use Rattle.ring.specs.Maxima.{ring_most}
-use Rattle.census.specs.declared.Census.{Census}
-use Rattle.census.specs.Census.{limit_of, before_search, encode, counts_by, counts_of, no_census, settled, after_count, after_list, Searched, CensusOutcome, CountOutcome, ListOutcome}
+use Rattle.census.specs.Told.{Census, no_census}
+use Rattle.census.specs.Census.{limit_of, before_search, encode, counts_by, counts_of, settled, after_count, after_list, Searched, CensusOutcome, CountOutcome, ListOutcome}
 use Rattle.census.proofs.Settled.{code, encode_words}
-use Rattle.demands.specs.declared.HereAndThere.{HereAndThere}
-use Rattle.demands.specs.Renumbering.{RenumberThenList, RenumberThenCount}
+use Rattle.demands.specs.Renumbering.{HereAndThereTold, RenumberThenList, RenumberThenCount}
 use Rattle.demands.proofs.Searches.{before_network, lists_rings_lem}
 use Rattle.demands.proofs.Meets.{count_met, list_met, renumber_met}
 
@@ -60,7 +59,7 @@ module _ (n : ℕ) (t names before after : List ℕ) (a : Answer) (R : RenumberO
           | no y ↦ (O.refused y).0 ∙ ap no_census checks ∙ sym (P.refused (λ w. y (ap (λ (x : Answer). x.code) checks ∙ w))).0
         ]
 
-pub renumber_then_count : (n : ℕ) (t names renamed renamed' : List ℕ) (limit allowance : ℕ) (d d' e e' : List ℕ) (r : HereAndThere) → RenumberOutcome n t names renamed renamed' r.renumbering
+pub renumber_then_count : (n : ℕ) (t names renamed renamed' : List ℕ) (limit allowance : ℕ) (d d' e e' : List ℕ) (r : HereAndThereTold) → RenumberOutcome n t names renamed renamed' r.renumbering
     → CountOutcome n t limit allowance d d' r.here → CountOutcome n renamed' limit allowance e e' r.there → RenumberThenCount n t names renamed renamed' limit allowance d d' e e' r
 renumber_then_count n t names renamed renamed' limit allowance d d' e e' r R O P = record {
   renumbered = renumber_met n t names renamed renamed' r.renumbering R;
@@ -69,7 +68,7 @@ renumber_then_count n t names renamed renamed' limit allowance d d' e e' r R O P
   census = λ z same. same_census n t names renamed renamed' r.renumbering R z limit allowance d d' e e' r.here r.there same (after_count allowance) (after_count allowance) (λ xs ys all words. rw all refl) O P;
 }
 
-pub renumber_then_list : (n : ℕ) (t names renamed renamed' : List ℕ) (limit allowance : ℕ) (d d' l l' e e' m m' : List ℕ) (r : HereAndThere) → RenumberOutcome n t names renamed renamed' r.renumbering
+pub renumber_then_list : (n : ℕ) (t names renamed renamed' : List ℕ) (limit allowance : ℕ) (d d' l l' e e' m m' : List ℕ) (r : HereAndThereTold) → RenumberOutcome n t names renamed renamed' r.renumbering
     → ListOutcome n t limit allowance d d' l l' r.here → ListOutcome n renamed' limit allowance e e' m m' r.there
     → RenumberThenList n t names renamed renamed' limit allowance d d' l l' e e' m m' r
 renumber_then_list n t names renamed renamed' limit allowance d d' l l' e e' m m' r R O P = record {

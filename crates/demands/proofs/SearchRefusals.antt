@@ -16,8 +16,8 @@ use Rattle.network.specs.Verdict.{accepted, refusal, check, sizes}
 use Rattle.network.specs.Chain.{Answers, Check, Table, Accepted}
 use Rattle.network.proofs.Chains.{check_says, in_range, range_true, range_false, check_atoms, check_long, check_most, table_says, first_number}
 use Rattle.ring.specs.Maxima.{ring_least, ring_most, allowance_most}
-use Rattle.census.specs.declared.Census.{Census}
-use Rattle.census.specs.Census.{not_limit, not_allowance, before_search, encode, no_census, after_count, after_list, settled, CensusOutcome, CountOutcome, ListOutcome}
+use Rattle.census.specs.Told.{Census, no_census}
+use Rattle.census.specs.Census.{not_limit, not_allowance, before_search, encode, after_count, after_list, settled, CensusOutcome, CountOutcome, ListOutcome}
 use Rattle.census.specs.Prepared.{Passed}
 use Rattle.census.proofs.Passed.{limit_given, reached_exactly}
 use Rattle.census.proofs.Settled.{code, encode_words}

@@ -11,7 +11,7 @@ use Rattle.network.specs.Network.{Bonded, IsNetwork}
 use Rattle.network.specs.Verdict.{check, not_long, sizes, accepted}
 use Rattle.network.proofs.Verdicts.{atoms, long}
 use Rattle.network.proofs.FaultlessTables.{faultless_of}
-use Rattle.census.specs.declared.Census.{Census}
+use Rattle.census.specs.Told.{Census}
 use Rattle.census.specs.Census.{limit_of, not_limit, not_allowance, before_search, encode, census_of, CensusOutcome, ListOutcome}
 use Rattle.census.proofs.Passed.{reached_exactly}
 use Rattle.census.proofs.Settled.{code, unrefused, reached, told_list}

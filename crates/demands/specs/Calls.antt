@@ -16,11 +16,10 @@ use Rattle.network.specs.Maxima.{places}
 use Rattle.network.specs.Network.{Bonded, IsNetwork}
 use Rattle.network.specs.Chain.{Answers}
 use Rattle.distance.specs.Distances.{DistanceTable}
-use Rattle.candidate.specs.declared.Tested.{Tested}
+use Rattle.candidate.specs.Told.{Tested}
 use Rattle.ring.specs.Maxima.{ring_most}
 use Rattle.candidate.specs.CandidateOutcome.{no_values, values, RightValues}
-use Rattle.census.specs.declared.Census.{Census}
-use Rattle.census.specs.Census.{no_census}
+use Rattle.census.specs.Told.{Census, no_census}
 use Rattle.renumber.specs.Outcome.{Renumbered}
 use Rattle.bonds.specs.declared.Reading.{Reading}
 use Rattle.bonds.specs.Bonds.{bonds_of}

@@ -12,7 +12,7 @@ use Rattle.examples.specs.Examples.{Example, rows_table, by_length, AllHold, exa
 use Rattle.examples.specs.NearMisses.{AllMissed}
 use Rattle.examples.specs.Repeats.{AllTakenTwice}
 use Rattle.ring.specs.Maxima.{allowance_most}
-use Rattle.census.specs.declared.Census.{Census}
+use Rattle.census.specs.Told.{Census}
 use Rattle.census.specs.Census.{encode, census_of}
 use Rattle.demands.specs.Calls.{ListMet}
 

@@ -6,8 +6,8 @@
 use Rattle.std.specs.Prelude.{◌≡◌, List, ℕ}
 use Rattle.network.specs.declared.Answer.{Answer}
 use Rattle.network.specs.Chain.{Answers, OneAnswer}
-use Rattle.candidate.specs.declared.Tested.{Tested}
-use Rattle.census.specs.declared.Census.{Census}
+use Rattle.candidate.specs.Told.{Tested}
+use Rattle.census.specs.Told.{Census}
 use Rattle.bonds.specs.declared.Reading.{Reading}
 use Rattle.bnw.specs.declared.FileWritten.{FileWritten}
 use Rattle.demands.specs.Refusals.{ValidateSays, DistancesSays, CandidateSays, CountSays, ListSays, RenumberSays, WriteSays}

@@ -15,7 +15,7 @@
 use Rattle.std.specs.Prelude.{◌≡◌, ◌↔◌, List, ◌++◌, ℕ, ◌*◌, ◌≤◌, ◌<◌, length, take, drop}
 use Rattle.graph.specs.Lists.{gather}
 use Rattle.ring.specs.Maxima.{allowance_most}
-use Rattle.census.specs.declared.Census.{Census}
+use Rattle.census.specs.Told.{Census}
 use Rattle.census.specs.Census.{encode, ListOutcome}
 use Rattle.bonds.specs.declared.Reading.{Reading}
 use Rattle.bnw.specs.Reading.{Bytes, ReadOutcome}

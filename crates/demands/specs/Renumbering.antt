@@ -1,5 +1,7 @@
 -- Demand 3, of listing and of counting.
 --
+--   HereAndThereTold            what a renumbering tells, and the network's census as it was and as renumbered
+--   here_and_there_told r       that of the outcomes r
 --   SameRings names limit t renamed' l l' m m'     the buffer l becomes the list of the network's rings, m that of the renumbered network's,
 --                               and these are those under their new names
 --   RenumberThenList n t names renamed renamed' limit allowance d d' l l' e e' m m' r    the network is renumbered, then listed as it was
@@ -12,8 +14,19 @@ use Rattle.graph.specs.Listing.{RingListing}
 use Rattle.network.specs.Network.{Bonded}
 use Rattle.renumber.specs.Carried.{RingsRenumbered}
 use Rattle.census.specs.Census.{limit_of, encode}
+use Rattle.network.specs.declared.Answer.{Answer}
+use Rattle.network.specs.Refusals.{told}
+use Rattle.census.specs.Told.{Census, histogram_told}
 use Rattle.demands.specs.declared.HereAndThere.{HereAndThere}
 use Rattle.demands.specs.Calls.{RenumberMet, CountMet, ListMet}
+
+pub record HereAndThereTold : Type 0 where
+  pub renumbering : Answer
+  pub here : Census
+  pub there : Census
+
+abbrev pub here_and_there_told : HereAndThere → HereAndThereTold
+here_and_there_told r = record { renumbering = told r.renumbering; here = histogram_told r.here; there = histogram_told r.there }
 
 pub record SameRings (names : List ℕ) (limit : ℕ) (t renamed' l l' m m' : List ℕ) : Type 0 where
   pub xs : List (List ℕ)
@@ -27,14 +40,14 @@ pub record SameRings (names : List ℕ) (limit : ℕ) (t renamed' l l' m m' : Li
   -- the same set under the new names, as many of each length
   pub carried : RingsRenumbered names xs ys
 
-pub record RenumberThenList (n : ℕ) (t names renamed renamed' : List ℕ) (limit allowance : ℕ) (d d' l l' e e' m m' : List ℕ) (r : HereAndThere) : Type 0 where
+pub record RenumberThenList (n : ℕ) (t names renamed renamed' : List ℕ) (limit allowance : ℕ) (d d' l l' e e' m m' : List ℕ) (r : HereAndThereTold) : Type 0 where
   pub renumbered : RenumberMet n t names renamed renamed' r.renumbering
   pub listed_here : ListMet n t limit allowance d d' l l' r.here
   pub listed_there : ListMet n renamed' limit allowance e e' m m' r.there
   pub census : r.renumbering.code ≡ 0 → length d ≡ length e → length l ≡ length m → r.here ≡ r.there
   pub rings : r.renumbering.code ≡ 0 → length d ≡ length e → length l ≡ length m → r.here.answer.code ≡ 0 → SameRings names limit t renamed' l l' m m'
 
-pub record RenumberThenCount (n : ℕ) (t names renamed renamed' : List ℕ) (limit allowance : ℕ) (d d' e e' : List ℕ) (r : HereAndThere) : Type 0 where
+pub record RenumberThenCount (n : ℕ) (t names renamed renamed' : List ℕ) (limit allowance : ℕ) (d d' e e' : List ℕ) (r : HereAndThereTold) : Type 0 where
   pub renumbered : RenumberMet n t names renamed renamed' r.renumbering
   pub counted_here : CountMet n t limit allowance d d' r.here
   pub counted_there : CountMet n renamed' limit allowance e e' r.there

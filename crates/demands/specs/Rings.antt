@@ -14,7 +14,7 @@ use Rattle.graph.specs.Standing.{StandExactly}
 use Rattle.graph.specs.Counts.{of_length, lengths_of, words_of}
 use Rattle.network.specs.Network.{Bonded}
 use Rattle.ring.specs.Maxima.{ring_most}
-use Rattle.census.specs.declared.Census.{Census}
+use Rattle.census.specs.Told.{Census}
 use Rattle.averages.specs.Averages.{quotient, mean_of, mean_values}
 use Rattle.census.specs.Census.{limit_of, encode}
 

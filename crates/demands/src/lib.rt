@@ -4,8 +4,8 @@
 
 use bnw::FileWritten;
 use bonds::Reading;
-use census::Census;
-use network::Answer;
+use census::Histogram;
+use network::Refusal;
 
 // What a reading and a writing answered, whichever came first.
 #[derive(Drop)]
@@ -22,10 +22,10 @@ pub struct ReadAndWrittenAndRead {
     pub again: Reading,
 }
 
-// What a renumbering answered, and the census of the network as it was and as renumbered.
+// What a renumbering answered, and what listing or counting the network as it was and as renumbered.
 #[derive(Drop)]
 pub struct HereAndThere {
-    pub renumbering: Answer,
-    pub here: Census,
-    pub there: Census,
+    pub renumbering: Result<(), Refusal>,
+    pub here: Result<Histogram, Refusal>,
+    pub there: Result<Histogram, Refusal>,
 }

@@ -1,14 +1,7 @@
 -- The outcome at each way through the checks; a call is accepted exactly on a network with a buffer of n·n bytes; the table
 -- that fits is unique, and so is the outcome.
-use mathlib.Core.Path.{◌≡◌, refl, sym, ◌∙◌, ap}
-use mathlib.Core.Logic.{◌↔◌}
-use mathlib.Core.List.{List}
-use Prim.Native.Nat.{ℕ, ◌*◌, ◌/◌, ◌%◌, ◌≤◌, ◌<◌}
-use native.Mathlib.Nat.{mul-le-mul, div-add-mod', div-lt_iff_lt-mul, mod-lt}
-use native.Mathlib.Omega.{arith}
+use Rattle.std.proofs.Common.{◌≡◌, refl, sym, ◌∙◌, ap, ◌↔◌, List, ℕ, ◌*◌, ◌/◌, ◌%◌, ◌≤◌, ◌<◌, mul-le-mul, div-add-mod', div-lt_iff_lt-mul, mod-lt, arith, length, ext_get_or}
 use native.Mathlib.Decide.{ℕ_discrete, dec_le}
-use lib.ListN.{length}
-use lib.Seq.{ext_get_or}
 use Rattle.graph.proofs.Distances.{tells_unique}
 use Rattle.network.specs.declared.Answer.{Answer}
 use Rattle.network.specs.Maxima.{atoms_most}
@@ -37,31 +30,38 @@ module _ (n : ℕ) (t old : List ℕ) where
   unfolding distance_verdict verdict
   verdict_rest h = rw (long old (n * n) h) refl
 
--- the outcome at each way through the checks; s is the answer of the sizes
+-- the outcome at each way through the checks
 module _ (n : ℕ) (t old : List ℕ) (a : Answer) where
   refused_with : a ≡ distance_verdict n t old → (a.code ≡ 0 → ⊥) → DistancesOutcome n t old old a
   refused_with h z = record { answer = h; refused = λ _. refl; filled = λ y. absurd (z y) }
 
-  pub out_sizes : a ≡ sizes n t (λ b. b) accepted → (a.code ≡ 0 → ⊥) → DistancesOutcome n t old old a
-  unfolding distance_verdict
-  out_sizes e z = refused_with (wrong_sizes n t a e z _) z
+  module _ (e : a ≡ sizes n t (λ b. b) accepted) where
+    pub out_sizes : (a.code ≡ 0 → ⊥) → DistancesOutcome n t old old a
+    unfolding distance_verdict
+    out_sizes z = refused_with (wrong_sizes n t a e z _) z
 
-  pub out_5 : (s : Answer) → s ≡ sizes n t (λ b. b) accepted → s.code ≡ 0 → a ≡ refusal 5 → (length old ≡ n * n → ⊥) → DistancesOutcome n t old old a
-  unfolding distance_verdict
-  out_5 s e z h l = refused_with (h ∙ sym (sized n t (right_atoms n t s e z) (right_table n t s e z) _ ∙ rw (not_long_lem old (n * n) l) refl)) (omega (arith, ap code h))
+    -- refusal 5
+    pub out_long : a.code ≡ 0 → (length old ≡ n * n → ⊥) → DistancesOutcome n t old old (refusal 5)
+    unfolding distance_verdict
+    out_long z l = record {
+      answer = sym (sized n t (right_atoms n t a e z) (right_table n t a e z) _ ∙ rw (not_long_lem old (n * n) l) refl);
+      refused = λ _. refl;
+      filled = λ y. absurd (omega arith);
+    }
 
-  module _ (room : length old ≡ n * n) (h : a ≡ verdict n t) where
-    says : a ≡ distance_verdict n t old
-    says = h ∙ sym (verdict_rest n t old room)
+  module _ (e : a ≡ verdict n t) where
+    pub out_faults : length old ≡ n * n → (a.code ≡ 0 → ⊥) → DistancesOutcome n t old old a
+    out_faults room = refused_with (e ∙ sym (verdict_rest n t old room))
 
-    pub out_faults : (a.code ≡ 0 → ⊥) → DistancesOutcome n t old old a
-    out_faults = refused_with says
+    pub is_network : a.code ≡ 0 → IsNetwork n t
+    is_network z = network_of n t (ap code (sym e) ∙ z)
 
-    pub out_filled : (new : List ℕ) → a.code ≡ 0 → DistanceTable n t new → DistancesOutcome n t old new a
-    out_filled new y d = record { answer = says; refused = λ f. absurd (f y); filled = λ _. d }
-
-pub is_network : (n : ℕ) (t : List ℕ) (a : Answer) → a ≡ verdict n t → a.code ≡ 0 → IsNetwork n t
-is_network n t a h z = network_of n t (ap code (sym h) ∙ z)
+    pub out_filled : a.code ≡ 0 → (new : List ℕ) → length old ≡ n * n → DistanceTable n t new → DistancesOutcome n t old new accepted
+    out_filled z new room d = record {
+      answer = sym (verdict_rest n t old room ∙ accepted_of n t (is_network z));
+      refused = λ f. absurd (f refl);
+      filled = λ _. d;
+    }
 
 -- accepted exactly on a network with a buffer of n·n bytes
 module _ (n : ℕ) (t old : List ℕ) where

@@ -1,12 +1,7 @@
 -- The passes find the distances.
-use mathlib.Core.Path.{◌≡◌, refl, sym, ◌∙◌, subst}
-use mathlib.Core.Logic.{inl, inr}
-use mathlib.Core.List.{List}
-use Prim.Native.Nat.{ℕ, zero, suc, ◌+◌, ◌≤◌, ◌<◌}
-use native.Mathlib.Omega.{arith}
+use Rattle.std.proofs.Common.{◌≡◌, refl, sym, ◌∙◌, subst, inl, inr, Bool, true, false, List, ℕ, zero, suc, ◌+◌, ◌≤◌, ◌<◌, arith, length, get_or, set, replicate, get_or-set_same, get_or-set_other}
 use native.Mathlib.Decide.{ℕ_discrete, dec_le}
-use lib.ListN.{length, get_or, replicate, length-replicate, get_or-replicate}
-use lib.Seq.{get_or-set_same, get_or-set_other}
+use lib.ListN.{length-replicate, get_or-replicate}
 use Rattle.graph.specs.Graph.{Walk, Nearest}
 use Rattle.graph.proofs.Distances.{distance_of, walk_longer, walk_last}
 use Rattle.network.specs.Maxima.{atoms_most}
@@ -121,31 +116,30 @@ pub record Before (t : List ℕ) (n s d : ℕ) (row : List ℕ) : Type 0 where
   pub reached : Reached t n s d row
   pub room : d + 1 + unreached row ≤ n
 
-pub before_start : (t : List ℕ) (n s : ℕ) (row : List ℕ) → IsNetwork n t → s < n → row ≡ first_row n s → Before t (length row) s 0 row
-before_start t n s row N l h =
-    rw (start_long n s row h) (rw h (record {
-      net = N;
-      known = l;
-      long = start_long n s (first_row n s) refl;
-      reached = reached_start t n s N l;
-      room = omega (arith, unreached_start n s l);
-    }))
+pub before_start : (t : List ℕ) (n s : ℕ) (row : List ℕ) → IsNetwork n t → s < n → row ≡ replicate n no_path → Before t n s 0 (set row s 0)
+before_start t n s row N l h = rw h (record {
+  net = N;
+  known = l;
+  long = start_long n s;
+  reached = reached_start t n s N l;
+  room = omega (arith, unreached_start n s l);
+})
 
-module _ (t : List ℕ) (n s d : ℕ) (row new : List ℕ) (r : ℕ) (B : Before t n s d row) (h : new ≡ level t d (length row) 0 row) (F : PassFilled row new r) where
+module _ (t : List ℕ) (n s d : ℕ) (row new : List ℕ) (filled : Bool) (B : Before t n s d row) (h : new ≡ level t d (length row) 0 row) (F : PassFilled row new filled) where
   small : d + 1 < no_path
   small = omega (arith, B.room, B.net.counted.most)
 
   passed : new ≡ level t d n 0 row
   passed = h ∙ rw B.long
 
-  pub before_next : (r ≡ 0 → ⊥) → Before t n s (d + 1) new
+  pub before_next : filled ≡ true → Before t n s (d + 1) new
   before_next z = record {
     net = B.net;
     known = B.known;
     long = F.long ∙ B.long;
     reached = rw passed (reached_next t n s B.net B.known d small row B.long B.reached);
-    room = omega (arith, B.room, F.fewer);
+    room = omega (arith, B.room, F.fewer z);
   }
 
-  pub before_last : r ≡ 0 → DistanceRow t n s new
+  pub before_last : filled ≡ false → DistanceRow t n s new
   before_last z = rw (F.same z) (reached_all t n s B.net B.known d small row B.long B.reached (sym passed ∙ F.same z) (omega (arith, B.room)) B.net.counted.most)

@@ -1,13 +1,8 @@
 -- A row of n entries put back into a table of n rows.
-use mathlib.Core.Path.{◌≡◌, sym, ◌∙◌, ap}
-use mathlib.Core.List.{List}
-use Prim.Native.Nat.{ℕ, ◌+◌, ◌-◌, ◌*◌, ◌≤◌, ◌<◌}
-use native.Mathlib.Nat.{suc-mul, mul-le-mul_right}
-use native.Mathlib.Omega.{arith}
+use Rattle.std.proofs.Common.{◌≡◌, sym, ◌∙◌, ap, List, ℕ, ◌+◌, ◌-◌, ◌*◌, ◌≤◌, ◌<◌, suc-mul, mul-le-mul_right, arith, length, get_or, take, drop, length-drop, length-take-le, get_or-take, get_or-append-add}
 use native.Mathlib.Decide.{ℕ_discrete}
-use lib.ListN.{length, get_or, take, drop, length-drop, get_or-append}
-use lib.Seq.{length-take-le, get_or-take, get_or-append-add}
-use borrow.Rule.Slice.PartMut.{put_mid, same_len_mid}
+use lib.ListN.{get_or-append}
+use borrow.Rule.Slice.PartMut.{put_mid}
 use Rattle.graph.specs.Graph.{Tells}
 use Rattle.network.specs.Network.{Bonded}
 use Rattle.distance.specs.Distances.{no_path, distance}
@@ -17,7 +12,7 @@ use Rattle.distance.specs.Levels.{DistanceRow}
 abbrev pub Rows : List ℕ → ℕ → ℕ → List ℕ → Type 0
 Rows t n s dist = (x y : ℕ) → x < s → y < n → Tells (Bonded t) no_path x y (distance dist n x y)
 
-pub row_end : (s n m : ℕ) → s < m → s * n + n ≤ m * n
+row_end : (s n m : ℕ) → s < m → s * n + n ≤ m * n
 row_end s n m l = rw suc-mul at (mul-le-mul_right n l)
 
 module _ (n s : ℕ) (dist : List ℕ) (l : s < n) (long : length dist ≡ n * n) where
@@ -29,9 +24,6 @@ module _ (n s : ℕ) (dist : List ℕ) (l : s < n) (long : length dist ≡ n * n
   module _ (row : List ℕ) (same : length row ≡ length (take (s * n + n - s * n) (drop (s * n) dist))) where
     abbrev new : List ℕ
     new = put_mid (s * n) (s * n + n - s * n) dist row
-
-    pub put_long : length new ≡ n * n
-    put_long = same_len_mid (s * n) (s * n + n - s * n) dist row same ∙ long
 
     head : length (take (s * n) dist) ≡ s * n
     head = length-take-le (s * n) dist (omega (arith, row_end s n n l))

@@ -7,8 +7,8 @@
 --   level t d k v row         so do the k atoms from v on
 --   first_row n s             the row before the first pass: s is at 0, no other atom has an entry
 --   unreached row             how many atoms have no entry
---   PassFilled old new r      r entries were filled on the way from old to new
-use Rattle.std.specs.Prelude.{◌≡◌, List, [], ◌∷◌, cond, ℕ, zero, suc, ◌+◌, ◌<◌, eqb, length, get_or, set, replicate}
+--   PassFilled old new filled    whether an entry was filled on the way from old to new; if one was, fewer atoms have no entry
+use Rattle.std.specs.Prelude.{◌≡◌, List, Bool, true, false, cond, ℕ, zero, suc, ◌+◌, ◌<◌, eqb, length, get_or, set, replicate, sum_by}
 use Rattle.graph.specs.Graph.{Tells}
 use Rattle.network.specs.Maxima.{places, free}
 use Rattle.network.specs.Network.{word, Bonded}
@@ -35,10 +35,9 @@ abbrev pub first_row : ℕ → ℕ → List ℕ
 first_row n s = set (replicate n no_path) s 0
 
 unfoldable pub unreached : List ℕ → ℕ
-unreached [] = 0
-unreached (a ∷ row) = cond (eqb a no_path) (suc (unreached row)) (unreached row)
+unreached row = sum_by (λ a. cond (eqb a no_path) 1 0) row
 
-pub record PassFilled (old new : List ℕ) (r : ℕ) : Type 0 where
+pub record PassFilled (old new : List ℕ) (filled : Bool) : Type 0 where
   pub long : length new ≡ length old
-  pub fewer : unreached new + r ≡ unreached old
-  pub same : r ≡ 0 → new ≡ old
+  pub fewer : filled ≡ true → unreached new < unreached old
+  pub same : filled ≡ false → new ≡ old

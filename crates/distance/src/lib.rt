@@ -4,31 +4,27 @@
 mod rows;
 
 ghost use Rattle.std.specs.Prelude.{◌≡◌};
+ghost use Rattle.network.specs.Refusals.{told};
 ghost use Rattle.distance.specs.Distances.{no_path};
 ghost use Rattle.distance.specs.Outcome.{DistancesOutcome};
 
-use network::Answer;
+use network::{Reason, Refusal};
 
 // The byte for two atoms between which there is no path.
+// Kept: a number for none, since the buffer that C lends is given it.
 pub const NO_PATH: u8 = 255;
 
 // Fills `dist` with the distances of a network: refusals 1, 4, 5, and 7 to 11.
-pub fn distances(n: usize, table: &[u16], dist: &mut [u8]) -> Answer
-    ensures { DistancesOutcome n table.now dist.old dist.new result }
+pub fn distances(n: usize, table: &[u16], dist: &mut [u8]) -> Result<(), Refusal>
+    ensures { DistancesOutcome n table.now dist.old dist.new (told result) }
 {
-    let sized = network::sizes(n, table);
-    if sized.code != 0 {
-        return sized;
-    }
+    network::sizes(n, table)?;
     if dist.len() != n * n {
-        return Answer::refused(5);
+        return Err(Reason::DistanceLength.into());
     }
-    let found = validator::validate(n, table);
-    if found.code != 0 {
-        return found;
-    }
+    validator::validate(n, table)?;
     rows::fill(n, table, dist);
-    found
+    Ok(())
 }
 
 // The constant is the number of the specifications.

@@ -1,8 +1,6 @@
 -- A call that hands over a flat answer has one outcome, as the call that it passes on. (Those that hand over the answer itself
 -- have the contract of the call, whose crate proves it.)
-use mathlib.Core.Path.{◌≡◌, sym, ◌∙◌, ap}
-use mathlib.Core.List.{List}
-use Prim.Native.Nat.{ℕ}
+use Rattle.std.proofs.Common.{◌≡◌, sym, ◌∙◌, ap, List, ℕ}
 use Rattle.candidate.specs.CandidateOutcome.{CandidateOutcome}
 use Rattle.candidate.proofs.Outcomes.{outcome_unique}
 use Rattle.census.specs.Census.{CountOutcome, ListOutcome}

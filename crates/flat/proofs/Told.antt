@@ -1,28 +1,17 @@
 -- The flat answers lose nothing: from each the answer of the call itself can be told.
-use mathlib.Core.Path.{◌≡◌, refl, sym}
-use mathlib.Core.Logic.{inl, inr}
-use mathlib.Core.Bool.{Bool, true, false}
-use mathlib.Core.List.{List}
-use Prim.Native.Nat.{ℕ, zero, suc}
-use native.Mathlib.Omega.{arith}
-use lib.Dec.{eqb}
-use lib.Ieee.{Float}
-use Rattle.candidate.specs.declared.Shortest.{Shortest}
-use Rattle.candidate.specs.declared.Shortest.TheVariants.{Yes, No, Refused}
-use Rattle.candidate.specs.declared.Tested.{Tested}
+use Rattle.std.proofs.Common.{◌≡◌, refl, sym, inl, inr, Bool, true, false, List, ℕ, zero, suc, arith, eqb, Float, Option, None, Some}
+use Rattle.candidate.specs.Told.{Shortest, Yes, No, Refused, Tested}
 use Rattle.candidate.specs.CandidateOutcome.{values, RightValues, CandidateOutcome}
 use Rattle.candidate.proofs.Values.{values_tell}
-use Rattle.averages.specs.declared.Mean.{Mean}
-use Rattle.averages.specs.declared.Mean.TheVariants.{Of, NoRings}
-use Rattle.census.specs.declared.Census.{Census}
+use Rattle.census.specs.Told.{Census}
 use Rattle.averages.specs.Averages.{mean_values}
 use Rattle.flat.specs.declared.FlatCensus.{FlatCensus}
 use Rattle.flat.specs.declared.FlatCandidate.{FlatCandidate}
 use Rattle.flat.specs.Flat.{flat_census, flat_candidate}
 
-abbrev pub told_mean : Bool → Float → Mean
-told_mean true x = Of x
-told_mean false x = NoRings
+abbrev pub told_mean : Bool → Float → Option Float
+told_mean true x = Some x
+told_mean false x = None
 
 abbrev pub told_census : FlatCensus → Census
 told_census r = record {
@@ -34,9 +23,9 @@ told_census r = record {
   averages = record { per_atom = r.per_atom; mean = told_mean r.has_mean r.mean };
 }
 
-mean_told : (m : Mean) → told_mean (eqb (mean_values m).number 1) (mean_values m).value ≡ m
-mean_told (Of x) = refl
-mean_told NoRings = refl
+mean_told : (m : Option Float) → told_mean (eqb (mean_values m).number 1) (mean_values m).value ≡ m
+mean_told (Some x) = refl
+mean_told None = refl
 
 pub census_told : (c : Census) → told_census (flat_census c) ≡ c
 census_told c = rw (mean_told c.averages.mean)

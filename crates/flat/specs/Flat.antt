@@ -4,9 +4,9 @@
 --   flat_candidate c            what the test of a candidate answers: by its values, number 1 for yes
 --   PassedOn flat Contract r    r is the flat form of an answer with this contract
 use Rattle.std.specs.Prelude.{◌≡◌, eqb}
-use Rattle.candidate.specs.declared.Tested.{Tested}
+use Rattle.candidate.specs.Told.{Tested}
 use Rattle.candidate.specs.CandidateOutcome.{values}
-use Rattle.census.specs.declared.Census.{Census}
+use Rattle.census.specs.Told.{Census}
 use Rattle.averages.specs.Averages.{mean_values}
 use Rattle.flat.specs.declared.FlatCensus.{FlatCensus}
 use Rattle.flat.specs.declared.FlatCandidate.{FlatCandidate}

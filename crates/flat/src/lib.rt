@@ -1,18 +1,18 @@
 // The answers of the calls as C has them.
 #![tactic(auto)]
 
-ghost use Rattle.std.specs.Prelude.{◌≡◌, eqb};
-ghost use Rattle.candidate.specs.CandidateOutcome.{values};
-ghost use Rattle.averages.specs.Averages.{mean_values};
+ghost use Rattle.std.specs.Prelude.{◌≡◌};
+ghost use Rattle.candidate.specs.Told.{tested_told};
+ghost use Rattle.census.specs.Told.{histogram_told};
 ghost use Rattle.flat.specs.Flat.{flat_census, flat_candidate};
 
-use averages::Mean;
-use candidate::{Shortest, Tested};
-use census::Census;
-use network::Answer;
+use candidate::Candidate;
+use census::Histogram;
+use network::{Answer, Refusal};
 use ring::Ring;
 
 // What counting and listing answer.
+// Kept: a flag beside its value, here and below, since C has no Option and no enum with values.
 #[repr(C)]
 #[derive(Drop)]
 pub struct FlatCensus {
@@ -48,90 +48,52 @@ pub struct FlatCandidate {
 }
 
 // What counting and listing answer: the mean with a flag.
-pub fn flat_census(c: Census) -> FlatCensus
-    ensures { result ≡ flat_census c }
-{
-    let answer = c.answer;
-    let counts = c.counts;
-    let averages = c.averages;
-    let mean = averages.mean;
-    FlatCensus {
-        answer,
-        limit: c.limit,
-        counts,
-        total: c.total,
-        words: c.words,
-        per_atom: averages.per_atom,
-        has_mean: has_mean(mean),
-        mean: mean_value(mean),
+impl From<Result<Histogram, Refusal>> for FlatCensus {
+    ghost from_gives = { λ outcome flat. flat ≡ flat_census (histogram_told outcome) };
+
+    fn from(outcome: Result<Histogram, Refusal>) -> FlatCensus {
+        let (answer, histogram) = match outcome {
+            Ok(histogram) => (Answer::accepted(), histogram),
+            Err(refusal) => (refusal.into(), Histogram::none()),
+        };
+        let counts = histogram.counts;
+        let mean = histogram.averages.mean;
+        FlatCensus {
+            answer,
+            limit: histogram.limit,
+            counts,
+            total: histogram.total,
+            words: histogram.words,
+            per_atom: histogram.averages.per_atom,
+            has_mean: mean.is_some(),
+            mean: mean.unwrap_or(0.0),
+        }
     }
 }
 
 // What the test of a candidate answers: yes or no with the pair of places.
-pub fn flat_candidate(c: Tested) -> FlatCandidate
-    ensures { result ≡ flat_candidate c }
-{
-    let answer = c.answer;
-    let shortest = c.shortest;
-    let writing = c.writing;
-    FlatCandidate {
-        answer,
-        yes: yes(shortest),
-        first: first(shortest),
-        second: second(shortest),
-        writing,
-    }
-}
+impl From<Result<Candidate, Refusal>> for FlatCandidate {
+    ghost from_gives = { λ outcome flat. flat ≡ flat_candidate (tested_told outcome) };
 
-// Whether there is a mean.
-fn has_mean(mean: Mean) -> bool
-    ensures { result ≡ eqb (mean_values mean).number 1 }
-{
-    match mean {
-        Mean::Of(_) => true,
-        Mean::NoRings => false,
-    }
-}
-
-// The mean, or 0.
-fn mean_value(mean: Mean) -> f64
-    ensures { result ≡ (mean_values mean).value }
-{
-    match mean {
-        Mean::Of(value) => value,
-        Mean::NoRings => 0.0,
-    }
-}
-
-// Whether it is a shortest-path ring.
-fn yes(shortest: Shortest) -> bool
-    ensures { result ≡ eqb (values shortest).number 1 }
-{
-    match shortest {
-        Shortest::Yes => true,
-        Shortest::No(_, _) => false,
-        Shortest::Refused => false,
-    }
-}
-
-// The first place of the pair named at no, else 0.
-fn first(shortest: Shortest) -> usize
-    ensures { result ≡ (values shortest).first }
-{
-    match shortest {
-        Shortest::Yes => 0,
-        Shortest::No(first, _) => first,
-        Shortest::Refused => 0,
-    }
-}
-
-// The second place of the pair named at no, else 0.
-fn second(shortest: Shortest) -> usize
-    ensures { result ≡ (values shortest).second }
-{
-    match shortest {
-        Shortest::Yes => 0,
-        Shortest::No(_, second) => second,
-        Shortest::Refused => 0,
+    fn from(outcome: Result<Candidate, Refusal>) -> FlatCandidate {
+        let none = [0; Ring::LENGTH];
+        let (answer, yes, first, second, writing) = match outcome {
+            Ok(Candidate::Ring(writing)) => (Answer::accepted(), true, 0, 0, writing),
+            Ok(Candidate::CutShort(first, second)) => (
+                Answer::accepted(),
+                false,
+                first,
+                second,
+                none,
+            ),
+            Err(refusal) => (refusal.into(), false, 0, 0, none),
+        };
+        FlatCandidate {
+            answer,
+            yes,
+            first,
+            second,
+            writing,
+        }
     }
 }

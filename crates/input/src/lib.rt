@@ -9,6 +9,7 @@ use std::io::{Error, ErrorKind, Read};
 
 // Reads until the buffer is full or nothing more comes, and answers how many bytes came; or until a read fails, which it answers beside
 // the bytes that came before. A read that a signal interrupts is made again.
+// Kept: a pair, since bytes may have come before a read that fails; and a range without end, since only the reader says how often it is asked.
 pub fn read_full<R: Read>(reader: &mut R, bytes: &mut [u8]) -> (usize, io::Result<()>)
     ensures within { result.0 ≤ length bytes.new }
     ensures consumed { Consumes (R.remaining reader.old) (R.remaining reader.new) (take result.0 bytes.new) }

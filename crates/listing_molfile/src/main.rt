@@ -1,5 +1,6 @@
 // Reads a molfile from standard input, and prints the rings of its network, or the refusal. What is printed is the report's: here stand
 // one read and one write. Of a longer file the first bytes are read.
+// Kept: a program beside `listing`, from which it differs in a length and a call: a function of both would be longer than either.
 #![tactic(auto)]
 
 use std::io;

@@ -1,34 +1,23 @@
 -- Numbers put one after the other in their order.
-use mathlib.Core.Path.{◌≡◌, refl, sym, ◌∙◌, ap, ap₂}
-use mathlib.Core.Logic.{◌⊎◌, inl, inr}
+use Rattle.std.proofs.Common.{◌≡◌, refl, sym, ◌∙◌, ap, ap₂, ◌⊎◌, inl, inr, List, [], ◌∷◌, ◌++◌, ℕ, zero, suc, ◌+◌, ◌-◌, ◌≤◌, ◌<◌, min, max, arith, length, get_or, set, replicate, length-append, length-set, get_or-set_same, get_or-set_other}
+use Rattle.std.proofs.Math.Decide.{dec_lt}
 use mathlib.Core.List.Memᴰ
-use mathlib.Core.List.{List, [], ◌∷◌, ◌++◌}
-use Prim.Native.Nat.{ℕ, zero, suc, ◌+◌, ◌-◌, ◌≤◌, ◌<◌}
-use native.Mathlib.Omega.{arith}
-use native.Mathlib.Decide.{dec_lt}
-use lib.ListN.{length, get_or, set, replicate, length-append, length-set}
-use lib.Seq.{get_or-set_same, get_or-set_other}
-use borrow.Author.Tests.{lt-ltb, le-ltb}
 use Rattle.graph.specs.Lists.{◌∈◌, Ascending}
 use Rattle.network.specs.Maxima.{places, free}
-use Rattle.molfile.specs.Rows.{lesser, greater, inserted, risen_on, held_row, inserted_at}
+use Rattle.molfile.specs.Rows.{inserted, risen_on, held_row, inserted_at}
 
--- the lesser and the greater
-pub lesser_below : (a b : ℕ) → a ≤ b → lesser a b ≡ a
-lesser_below a b h = rw (le-ltb b a h) refl
+-- the lesser and the greater of two numbers
+min_below : (a b : ℕ) → a ≤ b → min a b ≡ a
+min_below a b h = omega arith
 
-pub greater_below : (a b : ℕ) → a ≤ b → greater a b ≡ b
-greater_below a b h = rw (le-ltb b a h) refl
+max_below : (a b : ℕ) → a ≤ b → max a b ≡ b
+max_below a b h = omega arith
 
-pub lesser_above : (a b : ℕ) → b < a → lesser a b ≡ b
-lesser_above a b h = rw (lt-ltb b a h) refl
+min_above : (a b : ℕ) → b < a → min a b ≡ b
+min_above a b h = omega arith
 
-pub greater_above : (a b : ℕ) → b < a → greater a b ≡ a
-greater_above a b h = rw (lt-ltb b a h) refl
-
--- both are one of the two, so below what both are
-pub greater_under : (a b m : ℕ) → a < m → b < m → greater a b < m
-greater_under a b m h k = elim (dec_lt b a) [ yes l ↦ rw (greater_above a b l) h | no l ↦ rw (greater_below a b (omega arith)) k ]
+max_above : (a b : ℕ) → b < a → max a b ≡ a
+max_above a b h = omega arith
 
 -- members
 pub inserted_of : (y z : ℕ) (ws : List ℕ) → z ∈ inserted y ws → (z ≡ y) ⊎ (z ∈ ws)
@@ -42,11 +31,11 @@ inserted_of y z (w ∷ ws) m = go (dec_lt y w) (λ u. inserted_of u z ws) m
     later u (inl e) (inl d) = inl (e ∙ d)
     later u (inl e) (inr d) = inr (Memᴰ.head (e ∙ d))
 
-    go : Dec (y < w) → ((u : ℕ) → z ∈ inserted u ws → (z ≡ u) ⊎ (z ∈ ws)) → z ∈ lesser w y ∷ inserted (greater w y) ws → (z ≡ y) ⊎ (z ∈ w ∷ ws)
-    go (yes l) ih (Memᴰ.head e) = inl (e ∙ lesser_above w y l)
-    go (yes l) ih (Memᴰ.tail m) = later (greater w y) (ih (greater w y) m) (inr (greater_above w y l))
-    go (no l) ih (Memᴰ.head e) = inr (Memᴰ.head (e ∙ lesser_below w y (omega arith)))
-    go (no l) ih (Memᴰ.tail m) = later (greater w y) (ih (greater w y) m) (inl (greater_below w y (omega arith)))
+    go : Dec (y < w) → ((u : ℕ) → z ∈ inserted u ws → (z ≡ u) ⊎ (z ∈ ws)) → z ∈ min w y ∷ inserted (max w y) ws → (z ≡ y) ⊎ (z ∈ w ∷ ws)
+    go (yes l) ih (Memᴰ.head e) = inl (e ∙ min_above w y l)
+    go (yes l) ih (Memᴰ.tail m) = later (max w y) (ih (max w y) m) (inr (max_above w y l))
+    go (no l) ih (Memᴰ.head e) = inr (Memᴰ.head (e ∙ min_below w y (omega arith)))
+    go (no l) ih (Memᴰ.tail m) = later (max w y) (ih (max w y) m) (inl (max_below w y (omega arith)))
 
 pub inserted_has : (y z : ℕ) (ws : List ℕ) → (z ≡ y) ⊎ (z ∈ ws) → z ∈ inserted y ws
 unfolding inserted
@@ -54,18 +43,18 @@ inserted_has y z [] (inl e) = Memᴰ.head e
 inserted_has y z [] (inr m) = absurd (Memᴰ.not-nil m)
 inserted_has y z (w ∷ ws) h = go (dec_lt y w) (λ u. inserted_has u z ws) h
   where
-    go : Dec (y < w) → ((u : ℕ) → (z ≡ u) ⊎ (z ∈ ws) → z ∈ inserted u ws) → (z ≡ y) ⊎ (z ∈ w ∷ ws) → z ∈ lesser w y ∷ inserted (greater w y) ws
-    go (yes l) ih (inl e) = Memᴰ.head (e ∙ sym (lesser_above w y l))
-    go (yes l) ih (inr (Memᴰ.head e)) = Memᴰ.tail (ih (greater w y) (inl (e ∙ sym (greater_above w y l))))
-    go (yes l) ih (inr (Memᴰ.tail m)) = Memᴰ.tail (ih (greater w y) (inr m))
-    go (no l) ih (inl e) = Memᴰ.tail (ih (greater w y) (inl (e ∙ sym (greater_below w y (omega arith)))))
-    go (no l) ih (inr (Memᴰ.head e)) = Memᴰ.head (e ∙ sym (lesser_below w y (omega arith)))
-    go (no l) ih (inr (Memᴰ.tail m)) = Memᴰ.tail (ih (greater w y) (inr m))
+    go : Dec (y < w) → ((u : ℕ) → (z ≡ u) ⊎ (z ∈ ws) → z ∈ inserted u ws) → (z ≡ y) ⊎ (z ∈ w ∷ ws) → z ∈ min w y ∷ inserted (max w y) ws
+    go (yes l) ih (inl e) = Memᴰ.head (e ∙ sym (min_above w y l))
+    go (yes l) ih (inr (Memᴰ.head e)) = Memᴰ.tail (ih (max w y) (inl (e ∙ sym (max_above w y l))))
+    go (yes l) ih (inr (Memᴰ.tail m)) = Memᴰ.tail (ih (max w y) (inr m))
+    go (no l) ih (inl e) = Memᴰ.tail (ih (max w y) (inl (e ∙ sym (max_below w y (omega arith)))))
+    go (no l) ih (inr (Memᴰ.head e)) = Memᴰ.head (e ∙ sym (min_below w y (omega arith)))
+    go (no l) ih (inr (Memᴰ.tail m)) = Memᴰ.tail (ih (max w y) (inr m))
 
 pub inserted_length : (y : ℕ) (ws : List ℕ) → length (inserted y ws) ≡ suc (length ws)
 unfolding inserted
 inserted_length y [] = refl
-inserted_length y (w ∷ ws) = ap suc (inserted_length (greater w y) ws)
+inserted_length y (w ∷ ws) = ap suc (inserted_length (max w y) ws)
 
 -- an ascending list stays one
 pub inserted_ascends : (y : ℕ) (ws : List ℕ) → Ascending ◌<◌ ws → (y ∈ ws → ⊥) → Ascending ◌<◌ (inserted y ws)
@@ -82,12 +71,12 @@ inserted_ascends y (w ∷ ws) h new = go (dec_lt y w) (λ u. inserted_ascends u 
     rest : (u l : ℕ) → (u ∈ ws → ⊥) → l < u → ((b : ℕ) → b ∈ ws → l < b) → (b : ℕ) → b ∈ inserted u ws → l < b
     rest u l new k f b m = elim (inserted_of u b ws m) [ inl e ↦ (let q : b ≡ u = e in omega arith) | inr i ↦ f b i ]
 
-    go : Dec (y < w) → ((u : ℕ) → (u ∈ ws → ⊥) → Ascending ◌<◌ (inserted u ws)) → Ascending ◌<◌ (lesser w y ∷ inserted (greater w y) ws)
+    go : Dec (y < w) → ((u : ℕ) → (u ∈ ws → ⊥) → Ascending ◌<◌ (inserted u ws)) → Ascending ◌<◌ (min w y ∷ inserted (max w y) ws)
     go (yes l) ih =
-        rw (lesser_above w y l, greater_above w y l)
+        rw (min_above w y l, max_above w y l)
         (rest w y own l (λ b m. omega (arith, h.0 b m)), ih w own)
     go (no l) ih =
-        rw (lesser_below w y (omega arith), greater_below w y (omega arith))
+        rw (min_below w y (omega arith), max_below w y (omega arith))
         (rest y w (λ m. new (Memᴰ.tail m)) (omega (arith, apart)) h.0, ih y (λ m. new (Memᴰ.tail m)))
 
 -- one number after the other
@@ -121,17 +110,17 @@ risen_has z ws (y ∷ ys) (inr (Memᴰ.tail m)) = risen_has z (inserted y ws) ys
 -- what is put in its order into a row: the last word, which is free, is carried out of it
 abbrev settle : ℕ → List ℕ → List ℕ
 settle y [] = []
-settle y (w ∷ ws) = lesser w y ∷ settle (greater w y) ws
+settle y (w ∷ ws) = min w y ∷ settle (max w y) ws
 
 settle_free : (k : ℕ) → settle free (replicate k free) ≡ replicate k free
 settle_free zero = refl
-settle_free (suc k) = rw (lesser_below free free (omega arith), greater_below free free (omega arith)) (ap (λ (ws : List ℕ). free ∷ ws) (settle_free k))
+settle_free (suc k) = rw (min_below free free (omega arith), max_below free free (omega arith)) (ap (λ (ws : List ℕ). free ∷ ws) (settle_free k))
 
 settle_held : (y : ℕ) (ws : List ℕ) (k : ℕ) → y < free → ((w : ℕ) → w ∈ ws → w < free) → settle y (ws ++ replicate (suc k) free) ≡ inserted y ws ++ replicate k free
 unfolding inserted
-settle_held y [] k h f = rw (lesser_above free y h, greater_above free y h) (ap (λ (ws : List ℕ). y ∷ ws) (settle_free k))
+settle_held y [] k h f = rw (min_above free y h, max_above free y h) (ap (λ (ws : List ℕ). y ∷ ws) (settle_free k))
 settle_held y (w ∷ ws) k h f =
-    ap (λ (us : List ℕ). lesser w y ∷ us) (settle_held (greater w y) ws k (greater_under w y free (f w (Memᴰ.head refl)) h) (λ u m. f u (Memᴰ.tail m)))
+    ap (λ (us : List ℕ). min w y ∷ us) (settle_held (max w y) ws k (omega (arith, f w (Memᴰ.head refl))) (λ u m. f u (Memᴰ.tail m)))
 
 pub held_more : (y : ℕ) (ys : List ℕ) → length ys < places → y < free → ((w : ℕ) → w ∈ ys → w < free) → settle y (held_row ys) ≡ held_row (ys ++ (y ∷ []))
 unfolding held_row
@@ -146,14 +135,14 @@ held_more y ys l h f =
 pub inserted_at_length : (k i y : ℕ) (rows : List ℕ) → length (inserted_at rows i k y) ≡ length rows
 unfolding inserted_at
 inserted_at_length zero i y rows = refl
-inserted_at_length (suc k) i y rows = inserted_at_length k (i + 1) (greater (get_or rows i 0) y) (set rows i (lesser (get_or rows i 0) y)) ∙ length-set rows i (lesser (get_or rows i 0) y)
+inserted_at_length (suc k) i y rows = inserted_at_length k (i + 1) (max (get_or rows i 0) y) (set rows i (min (get_or rows i 0) y)) ∙ length-set rows i (min (get_or rows i 0) y)
 
 pub inserted_at_outside : (k i y j : ℕ) (rows : List ℕ) → (j < i) ⊎ (i + k ≤ j) → get_or (inserted_at rows i k y) j 0 ≡ get_or rows j 0
 unfolding inserted_at
 inserted_at_outside zero i y j rows h = refl
 inserted_at_outside (suc k) i y j rows h =
-    inserted_at_outside k (i + 1) (greater (get_or rows i 0) y) j (set rows i (lesser (get_or rows i 0) y)) (side h)
-    ∙ get_or-set_other rows i j (lesser (get_or rows i 0) y) 0 (other h)
+    inserted_at_outside k (i + 1) (max (get_or rows i 0) y) j (set rows i (min (get_or rows i 0) y)) (side h)
+    ∙ get_or-set_other rows i j (min (get_or rows i 0) y) 0 (other h)
   where
     side : (j < i) ⊎ (i + suc k ≤ j) → (j < i + 1) ⊎ (i + 1 + k ≤ j)
     side (inl l) = inl (omega arith)
@@ -173,25 +162,25 @@ inserted_at_inside i y p rows (w ∷ ws) f l k = go p k (λ q u v. inserted_at_i
     here = let e : i ≡ i + 0 = omega arith in ap (λ (j : ℕ). get_or rows j 0) e ∙ f 0 (omega arith)
 
     next : List ℕ
-    next = set rows i (lesser (get_or rows i 0) y)
+    next = set rows i (min (get_or rows i 0) y)
 
     go : (p : ℕ) → p < suc (length ws)
         → ((q u : ℕ) (v : List ℕ) → ((o : ℕ) → o < length ws → get_or v (i + 1 + o) 0 ≡ get_or ws o 0) → i + 1 + length ws ≤ length v → q < length ws → get_or (inserted_at v (i + 1) (length ws) u) (i + 1 + q) 0 ≡ get_or (settle u ws) q 0)
-        → get_or (inserted_at next (i + 1) (length ws) (greater (get_or rows i 0) y)) (i + p) 0 ≡ get_or (lesser w y ∷ settle (greater w y) ws) p 0
+        → get_or (inserted_at next (i + 1) (length ws) (max (get_or rows i 0) y)) (i + p) 0 ≡ get_or (min w y ∷ settle (max w y) ws) p 0
     go zero k ih =
         let e : i + 0 ≡ i = omega arith in
         rw e (
-        inserted_at_outside (length ws) (i + 1) (greater (get_or rows i 0) y) i next (inl (omega arith))
-        ∙ get_or-set_same rows i (lesser (get_or rows i 0) y) 0 (omega arith) ∙ ap (λ (v : ℕ). lesser v y) here
+        inserted_at_outside (length ws) (i + 1) (max (get_or rows i 0) y) i next (inl (omega arith))
+        ∙ get_or-set_same rows i (min (get_or rows i 0) y) 0 (omega arith) ∙ ap (λ (v : ℕ). min v y) here
         )
     go (suc p) k ih =
         let e : i + suc p ≡ i + 1 + p = omega arith in
         rw e (
-        ih p (greater (get_or rows i 0) y) next same (omega (arith, length-set rows i (lesser (get_or rows i 0) y))) (omega arith)
-        ∙ ap (λ (v : ℕ). get_or (settle (greater v y) ws) p 0) here
+        ih p (max (get_or rows i 0) y) next same (omega (arith, length-set rows i (min (get_or rows i 0) y))) (omega arith)
+        ∙ ap (λ (v : ℕ). get_or (settle (max v y) ws) p 0) here
         )
       where
         same : (q : ℕ) → q < length ws → get_or next (i + 1 + q) 0 ≡ get_or ws q 0
         same q h =
             let d : i + 1 + q ≡ i + suc q = omega arith in
-            get_or-set_other rows i (i + 1 + q) (lesser (get_or rows i 0) y) 0 (λ c. omega arith) ∙ ap (λ (j : ℕ). get_or rows j 0) d ∙ f (suc q) (omega arith)
+            get_or-set_other rows i (i + 1 + q) (min (get_or rows i 0) y) 0 (λ c. omega arith) ∙ ap (λ (j : ℕ). get_or rows j 0) d ∙ f (suc q) (omega arith)

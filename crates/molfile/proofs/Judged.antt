@@ -1,16 +1,9 @@
 -- A bond line without a fault, and the rows that hold the bonds before it.
-use mathlib.Core.Path.{◌≡◌, refl, sym, ◌∙◌, ap, subst}
-use mathlib.Core.Logic.{◌⊎◌, inl, inr}
-use mathlib.Core.Bool.{Bool, true, false, cond, not, ◌&&◌, ◌||◌}
+use Rattle.std.proofs.Common.{◌≡◌, refl, sym, ◌∙◌, ap, subst, ◌⊎◌, inl, inr, Bool, true, false, cond, not, ◌&&◌, ◌||◌, List, [], ◌∷◌, ◌++◌, ℕ, suc, ◌+◌, ◌-◌, ◌≤◌, ◌<◌, arith, eqb, leb, ltb, length, get_or, replicate, length-append, get_or-append-add, eq-eqb, ne_eqb, le-ltb, ltb-false, leb-true, leb-false, le-leb}
+use Rattle.std.proofs.Math.Decide.{ℕ_discrete, dec_lt}
+use Rattle.std.proofs.lemmas.List.{length-replicate, get_or-replicate}
+use Rattle.std.proofs.Math.ListN.{get_or-append}
 use mathlib.Core.List.Memᴰ
-use mathlib.Core.List.{List, [], ◌∷◌, ◌++◌}
-use Prim.Native.Nat.{ℕ, suc, ◌+◌, ◌-◌, ◌≤◌, ◌<◌}
-use native.Mathlib.Omega.{arith}
-use native.Mathlib.Decide.{ℕ_discrete, dec_lt}
-use lib.Dec.{eqb, leb, ltb}
-use lib.ListN.{length, get_or, replicate, length-append, length-replicate, get_or-replicate, get_or-append}
-use lib.Seq.{get_or-append-add}
-use borrow.Author.Tests.{eqb-false, eq-eqb, ne_eqb, le-ltb, ltb-false, leb-true, leb-false, le-leb, lt-leb, not-false}
 use Rattle.graph.specs.Lists.{◌∈◌}
 use Rattle.graph.proofs.Lists.{place_of, at_place}
 use Rattle.graph.specs.Levels.{elem}
@@ -24,7 +17,7 @@ use Rattle.molfile.specs.Columns.{value_at}
 use Rattle.molfile.specs.Molfile.{bond_width, first_at, second_at}
 use Rattle.molfile.specs.Judging.{two_numbers, pair_of, outside, pair_seen, pair_fault}
 use Rattle.molfile.specs.Rows.{risen_on, held_row, Held, full_row, held_fault, rows_fault}
-use Rattle.molfile.proofs.Columns.{never}
+use Rattle.std.proofs.lemmas.Bool.{true≢false, and_parts, eqb-false, lt-leb, not-false}
 use Rattle.molfile.proofs.Inserted.{risen_length, risen_of, risen_has}
 
 -- a chain of tests that gives 0
@@ -36,16 +29,12 @@ passed true c rest h e = absurd (h e)
 passed false c rest h e = (refl, e)
 
 pub neither : (a b : Bool) → (a || b) ≡ false → (a ≡ false) × (b ≡ false)
-neither true b e = absurd (never e)
+neither true b e = absurd (true≢false e)
 neither false b e = (refl, e)
-
-pub both : (a b : Bool) → (a && b) ≡ true → (a ≡ true) × (b ≡ true)
-both true b e = (refl, e)
-both false b e = absurd (never (sym e))
 
 pub inside_of : (n v : ℕ) → outside n v ≡ false → (1 ≤ v) × (v ≤ n)
 inside_of n v e =
-    let b = both (leb 1 v) (leb v n) (not-false (leb 1 v && leb v n) e) in
+    let b = and_parts (leb 1 v) (leb v n) (not-false (leb 1 v && leb v n) e) in
     (leb-true 1 v b.0, leb-true v n b.1)
 
 pub of_inside : (n v : ℕ) → 1 ≤ v → v ≤ n → outside n v ≡ false
@@ -53,7 +42,7 @@ of_inside n v l h = rw (le-leb 1 v l, le-leb v n h) refl
 
 -- membership
 pub has_of : (y : ℕ) (ys : List ℕ) → elem eqb y ys ≡ true → y ∈ ys
-has_of y [] e = absurd (never (sym e))
+has_of y [] e = absurd (true≢false (sym e))
 has_of y (z ∷ ys) e = go (ℕ_discrete y z) (has_of y ys)
   where
     go : Dec (y ≡ z) → (elem eqb y ys ≡ true → y ∈ ys) → y ∈ z ∷ ys
@@ -107,7 +96,7 @@ module _ (n : ℕ) (line : ℕ → List ℕ) (k : ℕ) where
         first = inside_of n (value_at (line k) first_at) oo.0;
         second = inside_of n (value_at (line k) second_at) oo.1;
         apart = eqb-false (pair_of line k).first (pair_of line k).second dd.0;
-        new = λ m. never (sym (of_has (pair_of line k).second (before (pair_of line k).first) m) ∙ dd.1);
+        new = λ m. true≢false (sym (of_has (pair_of line k).second (before (pair_of line k).first) m) ∙ dd.1);
         room_first = leb-false places (length (before (pair_of line k).first)) ff.0;
         room_second = leb-false places (length (before (pair_of line k).second)) ff.1;
       }

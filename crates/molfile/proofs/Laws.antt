@@ -7,17 +7,8 @@
 --   lines_alike           they have the same outcomes
 --   same_back             it does not matter which of the two files comes first
 --   returns_alike         with LF for CR LF a file has the same outcomes
-use mathlib.Core.Path.{◌≡◌, refl, sym, ◌∙◌, ap, ap₂, subst}
-use mathlib.Core.Logic.{◌↔◌}
-use mathlib.Core.Bool.{Bool, cond, not, ◌||◌}
-use mathlib.Core.List.{List, [], ◌∷◌, map}
-use Prim.Native.Nat.{ℕ, zero, suc, ◌+◌, ◌-◌, ◌*◌, ◌≤◌, ◌<◌}
-use native.Mathlib.Omega.{arith}
-use native.Mathlib.Decide.{ℕ_discrete}
-use lib.Dec.{eqb, leb, ltb}
-use lib.IntN.{pos}
-use lib.ListN.{length, take}
-use borrow.Author.Tests.{eq-eqb, ne_eqb}
+use Rattle.std.proofs.Common.{◌≡◌, refl, sym, ◌∙◌, ap, ap₂, subst, ◌↔◌, Bool, cond, not, ◌||◌, List, [], ◌∷◌, map, ℕ, zero, suc, ◌+◌, ◌-◌, ◌*◌, ◌≤◌, ◌<◌, arith, eqb, leb, ltb, pos, length, take, eq-eqb, ne_eqb}
+use Rattle.std.proofs.Math.Decide.{ℕ_discrete}
 use Rattle.graph.specs.Lists.{numbers_from}
 use Rattle.graph.specs.Levels.{elem}
 use Rattle.network.specs.declared.Answer.{Answer}

@@ -2,7 +2,6 @@
 -- checks, and the others lead there.
 pub mod Lines
 pub mod LineEnds
-pub mod Columns
 pub mod Inserted
 pub mod Judged
 pub mod Counts

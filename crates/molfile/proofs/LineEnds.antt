@@ -1,16 +1,9 @@
 -- With LF for CR LF a file has the same lines.
-use mathlib.Core.Path.{◌≡◌, refl, sym, ◌∙◌, ap}
-use mathlib.Core.Logic.{◌⊎◌, inl, inr, ◌↔◌}
-use mathlib.Core.Bool.{true, false, ◌&&◌}
-use mathlib.Core.List.{List, [], ◌∷◌}
-use Prim.Native.Nat.{ℕ, zero, suc, ◌+◌}
-use native.Mathlib.Omega.{arith}
-use native.Mathlib.Decide.{ℕ_discrete}
-use lib.Dec.{eqb}
-use lib.ListN.{length, get_or}
-use borrow.Author.Tests.{eq-eqb, ne_eqb}
+use Rattle.std.proofs.Common.{◌≡◌, refl, sym, ◌∙◌, ap, ◌⊎◌, inl, inr, ◌↔◌, true, List, [], ◌∷◌, ℕ, zero, suc, ◌+◌, arith, length, get_or, eq-eqb, ne_eqb}
+use Rattle.std.proofs.Math.Decide.{ℕ_discrete}
 use Rattle.molfile.specs.Lines.{line_feed, carriage_return, ends_here, line_of, past_line, from_line, line_at, MissingLine}
 use Rattle.molfile.specs.LineEnds.{without_returns, NoTwoReturns}
+use Rattle.molfile.proofs.Lines.{at_feed, at_other}
 
 -- no CR CR LF, from each byte on
 none_after : (b : ℕ) (rest : List ℕ) → NoTwoReturns (b ∷ rest) → NoTwoReturns rest
@@ -60,21 +53,9 @@ begins_feed (b ∷ rest) f = go (left_or_stays b rest)
     go (inr s) = inl (sym (ap (λ (bytes : List ℕ). get_or bytes 0 0) s.without) ∙ f)
 
 -- where a line ends
-pub at_feed : (b : ℕ) (rest : List ℕ) → b ≡ line_feed → ends_here b rest ≡ true
-unfolding ends_here
-at_feed b rest e = rw (eq-eqb b line_feed e)
-
 at_return : (b : ℕ) (rest : List ℕ) → b ≡ carriage_return → get_or rest 0 0 ≡ line_feed → ends_here b rest ≡ true
 unfolding ends_here
 at_return b rest r f = rw (r, eq-eqb (get_or rest 0 0) line_feed f)
-
-at_other : (b : ℕ) (rest : List ℕ) → (b ≡ line_feed → ⊥) → (b ≡ carriage_return → get_or rest 0 0 ≡ line_feed → ⊥) → ends_here b rest ≡ false
-unfolding ends_here
-at_other b rest f h = rw (ne_eqb b line_feed f) (go (ℕ_discrete b carriage_return))
-  where
-    go : Dec (b ≡ carriage_return) → (eqb b carriage_return && eqb (get_or rest 0 0) line_feed) ≡ false
-    go (yes r) = rw (eq-eqb b carriage_return r) (ne_eqb (get_or rest 0 0) line_feed (h r))
-    go (no r) = rw (ne_eqb b carriage_return r)
 
 same_end : (b : ℕ) (rest : List ℕ) → NoTwoReturns (b ∷ rest) → Stays b rest → ends_here b (without_returns rest) ≡ ends_here b rest
 unfolding NoTwoReturns

@@ -1,13 +1,7 @@
 -- The rows that hold the bonds of a molfile are those of a network with these bonds and no others.
-use mathlib.Core.Path.{◌≡◌, refl, sym, ◌∙◌, ap, subst}
-use mathlib.Core.Logic.{◌⊎◌, inl, inr}
+use Rattle.std.proofs.Common.{◌≡◌, refl, sym, ◌∙◌, ap, subst, ◌⊎◌, inl, inr, List, [], ◌∷◌, ℕ, ◌+◌, ◌*◌, ◌≤◌, ◌<◌, arith, length, get_or, take, length-append, get_or-take, length-take-le}
+use Rattle.std.proofs.Math.Decide.{dec_lt}
 use mathlib.Core.List.Memᴰ
-use mathlib.Core.List.{List, [], ◌∷◌}
-use Prim.Native.Nat.{ℕ, ◌+◌, ◌*◌, ◌≤◌, ◌<◌}
-use native.Mathlib.Omega.{arith}
-use native.Mathlib.Decide.{dec_lt}
-use lib.ListN.{length, get_or, take, length-append}
-use lib.Seq.{get_or-take, length-take-le}
 use Rattle.graph.specs.Lists.{◌∈◌, gather, numbers_from}
 use Rattle.graph.proofs.Lists.{at_place, ascending_unique, length_made}
 use Rattle.network.specs.Maxima.{places}

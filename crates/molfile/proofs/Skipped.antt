@@ -1,21 +1,15 @@
 -- What comes after the bond lines is skipped.
 --
 --   rest_skipped    where `front` holds all lines that are read, with their ends, what comes after it does not matter
-use mathlib.Core.Path.{◌≡◌, refl, sym, ◌∙◌, ap, subst}
-use mathlib.Core.Logic.{◌↔◌}
+use Rattle.std.proofs.Common.{◌≡◌, refl, sym, ◌∙◌, ap, subst, ◌↔◌, List, [], ◌∷◌, ◌++◌, ℕ, zero, suc, ◌<◌, arith, length, eq-eqb, ne_eqb}
+use Rattle.std.proofs.Math.Decide.{ℕ_discrete}
 use mathlib.Core.List.Memᴰ
-use mathlib.Core.List.{List, [], ◌∷◌, ◌++◌}
-use Prim.Native.Nat.{ℕ, zero, suc, ◌<◌}
-use native.Mathlib.Omega.{arith}
-use native.Mathlib.Decide.{ℕ_discrete}
-use lib.ListN.{length}
-use borrow.Author.Tests.{eq-eqb, ne_eqb}
 use Rattle.graph.specs.Lists.{◌∈◌}
 use Rattle.bonds.specs.declared.Reading.{Reading}
 use Rattle.molfile.specs.Lines.{line_feed, ends_here, line_of, past_line, from_line, line_at, MissingLine}
 use Rattle.molfile.specs.Judging.{MolfileOutcome}
 use Rattle.molfile.specs.Same.{lines_read, SameLines, WholeLines}
-use Rattle.molfile.proofs.LineEnds.{at_feed}
+use Rattle.molfile.proofs.Lines.{at_feed}
 use Rattle.molfile.proofs.Laws.{lines_alike, same_back}
 
 -- the LF of a line comes later than a byte that is none

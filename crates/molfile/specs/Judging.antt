@@ -11,7 +11,8 @@
 --   pair_seen bond k            whether a bond of number below k has the pair of bond k, either way round
 --   pair_fault n line k         29, 31, 32 or 27 at bond k, or 0
 --   molfile_verdict file room   the answer
---   molfile_value file code     the value that goes with it: the atom count at 22, otherwise 0
+--   counts_value rest code      the count that a refusal names, where `rest` stands from the counts line on: the atom count at 22, otherwise 0
+--   molfile_value file code     the value that goes with the answer
 --   MolfileOutcome file before after r    what comes of reading a molfile
 use Rattle.std.specs.Prelude.{Bool, cond, not, ◌&&◌, ◌||◌, List, ℕ, ◌+◌, ◌-◌, ◌*◌, eqb, leb, ltb, ℤ, pos, length, get_or}
 use Rattle.graph.specs.Levels.{elem}
@@ -71,8 +72,11 @@ pair_fault n line k =
 unfoldable pub molfile_verdict : List ℕ → ℕ → Answer
 molfile_verdict file room = or_at (counts_fault (from_line file counts_line) room) 0 (first_bond (pair_fault (atom_count file) (bond_line file)) (bond_count file) 0)
 
+abbrev pub counts_value : List ℕ → ℕ → ℤ
+counts_value rest code = cond (eqb code 22) (pos (value_at (line_of rest) first_at)) (pos 0)
+
 unfoldable pub molfile_value : List ℕ → ℕ → ℤ
-molfile_value file code = cond (eqb code 22) (pos (atom_count file)) (pos 0)
+molfile_value file code = counts_value (from_line file counts_line) code
 
 abbrev pub MolfileOutcome : List ℕ → List ℕ → List ℕ → Reading → Type 0
 MolfileOutcome file before after r = ReadingOutcome (molfile_verdict file (length before)) (molfile_value file) (MolfileOf file) before after r

@@ -1,6 +1,5 @@
 -- The bonds read so far, held as rows while a molfile is read: the atoms bonded to each atom, ascending, then free places.
 --
---   lesser a b, greater a b the lesser and the greater of two numbers
 --   inserted y ws           y put in its order into an ascending list: at each member the lesser stays, and the greater is carried on
 --   risen_on ws ys          the members of ys, one after the other, put into ws
 --   held_row ys             the row of an atom with these partners: they ascend, then come free places
@@ -10,13 +9,11 @@
 --   full_row rows x         whether row x has no free place
 --   held_fault n v w rows   32 or 27 of a bond of the atoms v and w, numbered from 1, or 0, where the rows hold the bonds before it
 --   rows_fault n line rows  29, 31, 32 or 27 of a bond line, or 0, where they do
---   PairsJudged n rest m rows a    what comes of reading the m bond lines that `rest` begins with: the answer, and, where there is no fault, rows
---                           that hold their bonds
-use Rattle.std.specs.Prelude.{◌≡◌, Bool, cond, not, ◌||◌, List, [], ◌∷◌, ◌++◌, ℕ, zero, suc, ◌+◌, ◌-◌, ◌*◌, ◌<◌, eqb, ltb, length, get_or, set, replicate}
-use Rattle.network.specs.declared.Answer.{Answer}
+--   PairsHeld n rest m rows    the m bond lines that `rest` begins with have no fault, and the rows hold their bonds
+use Rattle.std.specs.Prelude.{◌≡◌, Bool, cond, not, ◌||◌, List, [], ◌∷◌, ◌++◌, ℕ, zero, suc, ◌+◌, ◌-◌, ◌*◌, ◌<◌, eqb, ltb, min, max, length, get_or, set, replicate}
 use Rattle.network.specs.Maxima.{atoms_most, places, free}
 use Rattle.network.specs.Network.{word}
-use Rattle.network.specs.Verdict.{in_row}
+use Rattle.network.specs.Verdict.{accepted, in_row}
 use Rattle.bonds.specs.Bonds.{Bond, partners, bonds_below}
 use Rattle.bonds.specs.Scan.{first_bond}
 use Rattle.molfile.specs.Lines.{line_at}
@@ -24,15 +21,9 @@ use Rattle.molfile.specs.Columns.{value_at}
 use Rattle.molfile.specs.Molfile.{bond_width, first_at, second_at}
 use Rattle.molfile.specs.Judging.{two_numbers, pair_of, outside, pair_fault}
 
-abbrev pub lesser : ℕ → ℕ → ℕ
-lesser a b = cond (ltb b a) b a
-
-abbrev pub greater : ℕ → ℕ → ℕ
-greater a b = cond (ltb b a) a b
-
 unfoldable pub inserted : ℕ → List ℕ → List ℕ
 inserted y [] = y ∷ []
-inserted y (w ∷ ws) = lesser w y ∷ inserted (greater w y) ws
+inserted y (w ∷ ws) = min w y ∷ inserted (max w y) ws
 
 abbrev pub risen_on : List ℕ → List ℕ → List ℕ
 risen_on ws [] = ws
@@ -47,7 +38,7 @@ pub record Held (rows : List ℕ) (bonds : List Bond) : Type 0 where
 
 unfoldable pub inserted_at : List ℕ → ℕ → ℕ → ℕ → List ℕ
 inserted_at rows i zero y = rows
-inserted_at rows i (suc k) y = inserted_at (set rows i (lesser (get_or rows i 0) y)) (i + 1) k (greater (get_or rows i 0) y)
+inserted_at rows i (suc k) y = inserted_at (set rows i (min (get_or rows i 0) y)) (i + 1) k (max (get_or rows i 0) y)
 
 abbrev pub with_bond : List ℕ → ℕ → ℕ → List ℕ
 with_bond rows x y = inserted_at (inserted_at rows (x * places) places y) (y * places) places x
@@ -68,6 +59,6 @@ rows_fault n line rows =
     (cond (not (two_numbers line)) 31
     (held_fault n (value_at line first_at) (value_at line second_at) rows))
 
-pub record PairsJudged (n : ℕ) (rest : List ℕ) (m : ℕ) (rows : List ℕ) (a : Answer) : Type 0 where
-  pub verdict : a ≡ first_bond (pair_fault n (line_at rest)) m 0
-  pub holds : a.code ≡ 0 → Held rows (bonds_below (pair_of (line_at rest)) m)
+pub record PairsHeld (n : ℕ) (rest : List ℕ) (m : ℕ) (rows : List ℕ) : Type 0 where
+  pub none : first_bond (pair_fault n (line_at rest)) m 0 ≡ accepted
+  pub holds : Held rows (bonds_below (pair_of (line_at rest)) m)

@@ -1,98 +1,74 @@
 // The number columns of a line: blanks, then at least one digit, to the end of the three.
-ghost use Rattle.std.specs.Prelude.{◌≡◌, [], ◌∷◌, ◌-◌, ◌≤◌, drop, eqb, ◌||◌};
-ghost use Rattle.molfile.specs.Lines.{line_of};
-ghost use Rattle.molfile.specs.Columns.{blank, zero_digit, is_digit, is_number, number_at, value_at};
+#![tactic(auto, unfolding(molfile::specs::Columns::is_digit, molfile::specs::Columns::number_at, molfile::specs::Columns::value_at))]
+
+ghost use Rattle.std.specs.Prelude.{◌≡◌, ◌≤◌, get_or};
+ghost use Rattle.std.specs.Bool.{then_some};
+ghost use Rattle.molfile.specs.Columns.{is_number, number_at, value_at, columns};
 ghost use Rattle.molfile.specs.Molfile.{first_at, second_at};
 ghost use Rattle.molfile.specs.Judging.{two_numbers};
 
-// Whether both number columns of the line at `at` hold a number.
-pub fn two_numbers(file: &[u8], at: usize) -> bool
-    ensures { result ≡ two_numbers (line_of (drop at file.now)) }
+// The two numbers of a line, where both its number columns hold one.
+#[tactic(auto, using(std::proofs::lemmas::Bool::Decides::nat_tests), unfolding(molfile::specs::Judging::two_numbers))]
+pub fn two_numbers(line: &[u8]) -> Option<(u16, u16)>
+    ensures { result ≡ then_some (two_numbers line.now) (value_at line.now first_at, value_at line.now second_at) }
 {
-    if !number_at(file, at, molfile::FIRST_AT) {
-        return false;
+    if number_at(line, molfile::FIRST_AT) && number_at(line, molfile::SECOND_AT) {
+        Some(values(line))
+    } else {
+        None
     }
-    number_at(file, at, molfile::SECOND_AT)
 }
 
-// Whether the three columns from i on of the line at `at` are a number.
-fn number_at(file: &[u8], at: usize, i: usize) -> bool
-    requires { i ≤ second_at }
-    ensures { result ≡ number_at (line_of (drop at file.now)) i }
+// What its two number columns are worth, whatever they hold.
+pub fn values(line: &[u8]) -> (u16, u16)
+    ensures { result ≡ (value_at line.now first_at, value_at line.now second_at) }
 {
-    is_number(
-        crate::column(file, at, i),
-        crate::column(file, at, i + 1),
-        crate::column(file, at, i + 2),
+    (
+        value_at(line, molfile::FIRST_AT),
+        value_at(line, molfile::SECOND_AT),
     )
 }
 
-// The first number of the line at `at`.
-pub fn first(file: &[u8], at: usize) -> usize
-    ensures { (result ≡ value_at (line_of (drop at file.now)) first_at) × (result ≤ 65535) }
-{
-    value_at(file, at, molfile::FIRST_AT)
-}
-
-// Its second number.
-pub fn second(file: &[u8], at: usize) -> usize
-    ensures { (result ≡ value_at (line_of (drop at file.now)) second_at) × (result ≤ 65535) }
-{
-    value_at(file, at, molfile::SECOND_AT)
-}
-
-// The number in the three columns from i on of the line at `at`.
-fn value_at(file: &[u8], at: usize, i: usize) -> usize
+// Whether the three columns from i on hold a number.
+// Kept: the bound on i stands here and in two contracts below; an enum of the two places where a number begins would be no plainer.
+fn number_at(line: &[u8], i: usize) -> bool
     requires { i ≤ second_at }
-    ensures { (result ≡ value_at (line_of (drop at file.now)) i) × (result ≤ 65535) }
+    ensures { result ≡ number_at line.now i }
 {
-    let hundreds = digit(crate::column(file, at, i));
-    let tens = digit(crate::column(file, at, i + 1));
-    100 * hundreds + 10 * tens + digit(crate::column(file, at, i + 2))
+    is_number(columns(line, i))
+}
+
+// What the three columns from i on are worth; a byte below the digits, as a blank is, is worth 0.
+fn value_at(line: &[u8], i: usize) -> u16
+    requires { i ≤ second_at }
+    ensures { result ≡ value_at line.now i }
+{
+    let [hundreds, tens, ones] = columns(line, i).map(|byte| u16::from(byte.saturating_sub(b'0')));
+    100 * hundreds + 10 * tens + ones
+}
+
+// The three columns from i on; one past the line's end is 0.
+fn columns(line: &[u8], i: usize) -> [u8; 3]
+    requires { i ≤ second_at }
+    ensures { result ≡ columns line.now i }
+{
+    [column(line, i), column(line, i + 1), column(line, i + 2)]
+}
+
+// Column i, or 0 past the line's end.
+// Kept: 0 and no Option, since what three columns are worth is stated of a line of any length, whose missing columns are 0.
+fn column(line: &[u8], i: usize) -> u8
+    ensures { result ≡ get_or line.now i 0 }
+{
+    line.get(i).copied().unwrap_or(0)
 }
 
 // Whether three columns are a number.
-fn is_number(a: u8, b: u8, c: u8) -> bool
-    ensures { result ≡ is_number (a ∷ b ∷ c ∷ []) }
+fn is_number(bytes: [u8; 3]) -> bool
+    ensures { result ≡ is_number bytes }
 {
-    if !is_digit(c) {
-        return false;
-    }
-    if is_digit(b) {
-        return is_blank_or_digit(a);
-    }
-    if b != b' ' {
-        return false;
-    }
-    a == b' '
-}
-
-// Whether a byte is a blank or a digit.
-fn is_blank_or_digit(b: u8) -> bool
-    ensures { result ≡ (eqb b blank || is_digit b) }
-{
-    if b == b' ' {
-        return true;
-    }
-    is_digit(b)
-}
-
-// Whether a byte is a digit.
-fn is_digit(b: u8) -> bool
-    ensures { result ≡ is_digit b }
-{
-    if b < b'0' {
-        return false;
-    }
-    b <= b'9'
-}
-
-// What a digit is worth; 0 where the byte is below the digits, as a blank is.
-fn digit(b: u8) -> usize
-    ensures { (result ≡ b - zero_digit) × (result ≤ 255) }
-{
-    if b < b'0' {
-        return 0;
-    }
-    (b - b'0') as usize
+    matches!(
+        bytes,
+        [b' ', b' ', b'0'..=b'9'] | [b' ' | b'0'..=b'9', b'0'..=b'9', b'0'..=b'9']
+    )
 }

@@ -1,69 +1,45 @@
 // Header and counts line: refusals 29, 30, 31, 22, 25, and 29 for a missing atom line.
-ghost use Rattle.std.specs.Prelude.{◌≡◌, cond, eqb, pos, drop};
+ghost use Rattle.std.specs.Prelude.{◌≡◌, ◌*◌, ◌≤◌, length, IfOk, IfErr};
+ghost use Rattle.network.specs.Maxima.{atoms_most, places};
+ghost use Rattle.network.specs.Refusals.{number_of};
 ghost use Rattle.molfile.specs.Lines.{line_of};
 ghost use Rattle.molfile.specs.Columns.{value_at};
-ghost use Rattle.molfile.specs.Molfile.{first_at};
-ghost use Rattle.molfile.specs.Judging.{has_version, counts_fault};
+ghost use Rattle.molfile.specs.Molfile.{first_at, second_at, counts_width};
+ghost use Rattle.molfile.specs.Judging.{has_version, counts_fault, counts_value};
 
 use molfile_lines::columns;
-use network::Network;
+use network::{Network, Reason};
 
-// The first of these refusals, or 0, where the counts line begins at `at` and the table lent has `room` words.
-pub fn counts_fault(file: &[u8], at: usize, room: usize) -> u8
-    ensures { result ≡ counts_fault (drop at file.now) room }
+// The counts of atoms and bonds, where `rest` stands from the counts line on and the table lent has `room` words; or the first of these refusals,
+// with the count that it names, or 0.
+#[tactic(auto, using(std::proofs::lemmas::Bool::Decides::nat_tests), unfolding(molfile::specs::Judging::counts_fault, network::specs::Refusals::network_of))]
+pub fn counts(rest: &[u8], room: usize) -> Result<(usize, usize), (Reason, i32)>
+    ensures right { IfOk result (λ counts. (counts_fault rest.now room ≡ 0) × (counts.0 ≡ value_at (line_of rest.now) first_at) × (counts.1 ≡ value_at (line_of rest.now) second_at)) }
+    ensures fits { IfOk result (λ counts. (counts.0 ≤ atoms_most) × (places * counts.0 ≤ room)) }
+    ensures refused { IfErr result (λ refusal. (number_of refusal.0 ≡ counts_fault rest.now room) × (refusal.1 ≡ counts_value rest.now (number_of refusal.0))) }
 {
-    if molfile_lines::width(file, at) < molfile::COUNTS {
-        return 29;
+    let line = molfile_lines::line(rest);
+    if line.len() < molfile::COUNTS {
+        return Err((Reason::LineMissing, 0));
     }
-    let version = has_version(file, at);
-    let numbers = columns::two_numbers(file, at);
-    if !version {
-        return 30;
+    if !has_version(line) {
+        return Err((Reason::NoVersion, 0));
     }
-    if !numbers {
-        return 31;
+    let (atoms, bonds) = columns::two_numbers(line).ok_or((Reason::NumberColumn, 0))?;
+    let network = Network::of(atoms.into()).ok_or((Reason::FileAtoms, atoms.into()))?;
+    if room < Network::PLACES * network.atoms {
+        return Err((Reason::TableShort, 0));
     }
-    let atoms = columns::first(file, at);
-    if atoms < 1 {
-        return 22;
+    if molfile_lines::skip(rest, network.atoms).is_empty() {
+        return Err((Reason::LineMissing, 0));
     }
-    if Network::ATOMS < atoms {
-        return 22;
-    }
-    if room < Network::PLACES * atoms {
-        return 25;
-    }
-    if file.len() <= molfile_lines::skip(file, at, atoms) {
-        return 29;
-    }
-    0
+    Ok((network.atoms, bonds.into()))
 }
 
-// Whether "V2000" stands in its columns of the line at `at`.
-fn has_version(file: &[u8], at: usize) -> bool
-    ensures { result ≡ has_version (line_of (drop at file.now)) }
+// Whether "V2000" stands in its columns of a counts line.
+fn has_version(line: &[u8]) -> bool
+    requires { counts_width ≤ length line.now }
+    ensures { result ≡ has_version line.now }
 {
-    if molfile_lines::column(file, at, molfile::VERSION_AT) != b'V' {
-        return false;
-    }
-    if molfile_lines::column(file, at, molfile::VERSION_AT + 1) != b'2' {
-        return false;
-    }
-    if molfile_lines::column(file, at, molfile::VERSION_AT + 2) != b'0' {
-        return false;
-    }
-    if molfile_lines::column(file, at, molfile::VERSION_AT + 3) != b'0' {
-        return false;
-    }
-    molfile_lines::column(file, at, molfile::VERSION_AT + 4) == b'0'
-}
-
-// The atom count of the line at `at`, which refusal 22 names, or 0.
-pub fn value_of(file: &[u8], at: usize, code: u8) -> i32
-    ensures { result ≡ cond (eqb code 22) (pos (value_at (line_of (drop at file.now)) first_at)) (pos 0) }
-{
-    if code == 22 {
-        return columns::first(file, at) as i32;
-    }
-    0
+    line[molfile::VERSION_AT..].starts_with(b"V2000")
 }

@@ -3,12 +3,52 @@
 // The cases stand in stdin, a ~ after each: its name, the words of the table lent in four digits, and the file, with a | between.
 #![tactic(auto)]
 
-mod cases;
+ghost use Rattle.std.specs.Prelude.{◌≤◌};
 
-use std::io;
+use network::Network;
+use say::{Shown, ShownWords};
+use std::io::Write;
+use std::{io, str};
+
+// The words of the greatest table.
+const WORDS: usize = Network::ATOMS * Network::PLACES;
+
+// The words shown: three rows and the word after them.
+const SHOWN: usize = 3 * Network::PLACES + 1;
 
 fn main(rt: HostRuntime) -> io::Result<()> {
     let mut bytes = [0u8; 16384];
     let (got, _ended) = input::read_full(&mut rt.stdin(), &mut bytes);
-    cases::run(&rt, &bytes[..got])
+    for case in bytes[..got].split(|byte| *byte == b'~') {
+        part(&rt, case)?;
+    }
+    Ok(())
+}
+
+// The three parts of a case.
+fn part(rt: &impl Print, case: &[u8]) -> io::Result<()> {
+    let mut parts = case.splitn(3, |byte| *byte == b'|');
+    if let (Some(name), Some(digits), Some(file)) = (parts.next(), parts.next(), parts.next())
+        && let Some(words) = number(digits)
+        && words <= WORDS
+    {
+        io::writer(rt).write_all(name)?;
+        print!(rt; ", words {words}, ")?;
+        read(rt, file, words)?;
+    }
+    Ok(())
+}
+
+fn number(digits: &[u8]) -> Option<usize> {
+    str::from_utf8(digits).ok()?.parse().ok()
+}
+
+// Reads a file into the first words of the greatest table.
+fn read(rt: &impl Print, file: &[u8], words: usize) -> io::Result<()>
+    requires { words ≤ WORDS }
+{
+    let mut table = [9u16; WORDS];
+    let reading = molfile_reader::read(file, &mut table[..words]);
+    let (shown, _) = table.split_at(SHOWN);
+    println!(rt; "read: {}\nits table{}", Shown(&reading), ShownWords(shown))
 }

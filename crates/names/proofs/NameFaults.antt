@@ -1,61 +1,30 @@
 -- 18 is given at the first bad name, and names without one are one-to-one.
-use mathlib.Core.Path.{◌≡◌, refl, sym, ◌∙◌, subst}
-use mathlib.Core.Logic.{◌⊎◌, inl, inr}
-use mathlib.Core.Bool.{Bool, true, false, cond}
-use mathlib.Core.List.{List}
-use Prim.Native.Nat.{ℕ, zero, suc, ◌+◌, ◌≤◌, ◌<◌}
-use native.Mathlib.Omega.{arith}
+use Rattle.std.proofs.Common.{◌≡◌, refl, sym, ◌∙◌, subst, ◌⊎◌, inl, inr, ◌==◌, Bool, true, false, cond, List, ℕ, zero, suc, ◌+◌, ◌≤◌, ◌<◌, length, take, Decides, arith, length-take-le, get_or-take, eq-eqb, eqb-true}
+use Rattle.std.specs.List.{list_any}
+use Rattle.std.proofs.lemmas.Bool.Decides.{nat_tests, Decides-or, not_from_Decides}
+use Rattle.std.proofs.lemmas.List.{get_or_default}
+use Rattle.std.proofs.lemmas.List.Folds.{Any-from_list_any, list_any_at}
 use native.Mathlib.Decide.{dec_le, ℕ_discrete}
-use lib.ListN.{length}
-use borrow.Author.Tests.{eq-eqb, ne_eqb, le-leb, lt-leb}
 use Rattle.network.specs.declared.Answer.{Answer}
 use Rattle.network.specs.Verdict.{answer, accepted}
 use Rattle.network.specs.Chain.{PlaceByPlace, Accepted}
 use Rattle.network.proofs.Chains.{one_accepted, one_places, places_at, places_right, places_passed}
-use Rattle.names.specs.Names.{name, OneToOne, BadName, name_seen, bad_name, name_faults}
-
-no_bool : {A : Type 0} → ◌≡◌ {A = Bool} false true → A
-no_bool z = absurd (let e : ◌≡◌ {A = ℕ} 0 1 = cc in omega arith)
-
-seen_of : (names : List ℕ) (w k j : ℕ) → name_seen names w k j ≡ true → (i : ℕ) × (j ≤ i) × (i < j + k) × (name names i ≡ w)
-unfolding name_seen
-seen_of names w zero j s = no_bool s
-seen_of names w (suc k) j s =
-    elim (ℕ_discrete (name names j) w) [
-      | yes e ↦ (j, omega arith, omega arith, e)
-      | no e ↦ (let r = seen_of names w k (j + 1) (simp (ne_eqb _ _ e) at s) in (r.0, omega (arith, r.1), omega (arith, r.2), r.3))
-    ]
-
-seen_has : (names : List ℕ) (w k j i : ℕ) → j ≤ i → i < j + k → name names i ≡ w → name_seen names w k j ≡ true
-unfolding name_seen
-seen_has names w zero j i l m e = absurd (omega arith)
-seen_has names w (suc k) j i l m e =
-    elim (ℕ_discrete (name names j) w) [
-      | yes h ↦ simp (eq-eqb _ _ h)
-      | no h ↦ rw (ne_eqb _ _ h) (seen_has names w k (j + 1) i (elim (ℕ_discrete j i) [ yes d ↦ absurd (h (rw d e)) | no d ↦ omega arith ]) (omega arith) e)
-    ]
+use Rattle.names.specs.Names.{name, OneToOne, BadName, bad_name, name_faults}
 
 -- the computed test is the fault
-module _ (n : ℕ) (names : List ℕ) (i : ℕ) where
-  pub bad_of : bad_name n names i ≡ true → BadName n names i
-  unfolding bad_name
-  bad_of s =
-      elim (dec_le n (name names i)) [
-        | yes l ↦ inl l
-        | no l ↦ (let k : name names i < n = omega arith in let r = seen_of names (name names i) i 0 (rw (lt-leb _ _ k) at s) in inr (r.0, omega (arith, r.2), r.3))
-      ]
+module _ (n : ℕ) (names : List ℕ) (i : ℕ) (within : i < length names) where
+  seen_decides : Decides (list_any (λ w. w == name names i) (take i names)) ((j : ℕ) × (j < i) × (name names j ≡ name names i))
+  seen_decides = (of_seen, λ r. list_any_at _ (take i names) r.0 0 (omega (arith, length-take-le i names (omega arith), r.1)) (eq-eqb _ _ (get_or-take i names r.0 0 r.1 ∙ r.2)))
+    where
+      of_seen : list_any (λ w. w == name names i) (take i names) ≡ true → (j : ℕ) × (j < i) × (name names j ≡ name names i)
+      of_seen s =
+          let r = Any-from_list_any _ (take i names) s in
+          let l : r.0 < i = omega (arith, length-take-le i names (omega arith), r.2) in
+          (r.0, l, get_or_default names r.0 0 r.1 (omega (arith, l)) ∙ sym (get_or-take i names r.0 r.1 l) ∙ r.3 ∙ eqb-true _ _ r.4)
 
-  pub bad_has : BadName n names i → bad_name n names i ≡ true
+  bad_decides : Decides (bad_name n names i) (BadName n names i)
   unfolding bad_name
-  bad_has (inl l) = simp (le-leb _ _ l)
-  bad_has (inr r) =
-      elim (dec_le n (name names i)) [
-        | yes l ↦ simp (le-leb _ _ l)
-        | no l ↦ (let k : name names i < n = omega arith in rw (lt-leb _ _ k) (seen_has names (name names i) i 0 r.0 (omega arith) (omega (arith, r.1)) r.2))
-      ]
-
-  pub good : bad_name n names i ≡ false → BadName n names i → ⊥
-  good s b = no_bool (sym s ∙ bad_has b)
+  bad_decides = Decides-or _ _ (grind (arith, nat_tests)) seen_decides
 
 -- the scan: the first bad name of the k from i on, or none of them is
 record Found (n : ℕ) (names : List ℕ) (k i : ℕ) (a : Answer) : Type 0 where
@@ -70,31 +39,34 @@ record None (n : ℕ) (names : List ℕ) (k i : ℕ) (a : Answer) : Type 0 where
   none : (j : ℕ) → i ≤ j → j < i + k → BadName n names j → ⊥
   is : a ≡ accepted
 
-scan : (n : ℕ) (names : List ℕ) (k i : ℕ) → Found n names k i (name_faults n names k i accepted) ⊎ None n names k i (name_faults n names k i accepted)
+scan : (n : ℕ) (names : List ℕ) (k i : ℕ) → i + k ≤ length names → Found n names k i (name_faults n names k i accepted) ⊎ None n names k i (name_faults n names k i accepted)
 unfolding name_faults
-scan n names zero i = inr (record { none = λ j l m. absurd (omega arith); is = refl })
-scan n names (suc k) i = go (bad_name n names i) refl (name_faults n names k (i + 1) accepted) (scan n names k (i + 1))
+scan n names zero i within = inr (record { none = λ j l m. absurd (omega arith); is = refl })
+scan n names (suc k) i within = go (bad_name n names i) refl (name_faults n names k (i + 1) accepted) (scan n names k (i + 1) (omega arith))
   where
+    decides : Decides (bad_name n names i) (BadName n names i)
+    decides = bad_decides n names i (omega arith)
+
     go : (b : Bool) → bad_name n names i ≡ b → (a : Answer) → Found n names k (i + 1) a ⊎ None n names k (i + 1) a
         → Found n names (suc k) i (cond b (answer 18 0 i) a) ⊎ None n names (suc k) i (cond b (answer 18 0 i) a)
-    go true e a _ = inl (record { at = i; low = omega arith; high = omega arith; bad = bad_of n names i e; none = λ j l m. absurd (omega arith); is = refl })
+    go true e a _ = inl (record { at = i; low = omega arith; high = omega arith; bad = decides.0 e; none = λ j l m. absurd (omega arith); is = refl })
     go false e a (inl r) = inl (record {
       at = r.at;
       low = omega (arith, r.low);
       high = omega (arith, r.high);
       bad = r.bad;
-      none = λ j l m. elim (ℕ_discrete j i) [ yes d ↦ rw d (good n names i e) | no d ↦ r.none j (omega arith) m ];
+      none = λ j l m. elim (ℕ_discrete j i) [ yes d ↦ rw d (not_from_Decides _ decides e) | no d ↦ r.none j (omega arith) m ];
       is = r.is;
     })
     go false e a (inr r) = inr (record {
-      none = λ j l m. elim (ℕ_discrete j i) [ yes d ↦ rw d (good n names i e) | no d ↦ r.none j (omega arith) (omega arith) ];
+      none = λ j l m. elim (ℕ_discrete j i) [ yes d ↦ rw d (not_from_Decides _ decides e) | no d ↦ r.none j (omega arith) (omega arith) ];
       is = r.is;
     })
 
 module _ (n : ℕ) (names : List ℕ) (long : length names ≡ n) where
   -- 18 at the first place that is bad
   pub names_say : PlaceByPlace 18 (BadName n names) n Accepted (name_faults n names (length names) 0 accepted)
-  names_say = go (scan n names (length names) 0)
+  names_say = go (scan n names (length names) 0 (omega arith))
     where
       go : {a : Answer} → Found n names (length names) 0 a ⊎ None n names (length names) 0 a → PlaceByPlace 18 (BadName n names) n Accepted a
       go (inl r) =

@@ -1,9 +1,5 @@
 -- One-to-one names: equal names are of the same atom, and every number below n is a name.
-use mathlib.Core.Path.{◌≡◌, sym}
-use mathlib.Core.Logic.{◌≢◌, ◌⊎◌, inl, inr}
-use mathlib.Core.List.{List}
-use Prim.Native.Nat.{ℕ, zero, suc, ◌<◌}
-use native.Mathlib.Omega.{arith}
+use Rattle.std.proofs.Common.{◌≡◌, sym, ◌≢◌, ◌⊎◌, inl, inr, List, ℕ, zero, suc, ◌<◌, arith}
 use native.Mathlib.Decide.{dec_lt, ℕ_discrete}
 use Rattle.graph.proofs.Pigeons.{pigeons}
 use Rattle.names.specs.Names.{name, OneToOne}

@@ -3,10 +3,10 @@
 --   name names x                   the new number of atom x
 --   OneToOne n names               a renumbering of n atoms: n names, each below n, no two equal
 --   BadName n names i              18 at place i: its name is not below n, or was seen earlier
---   name_seen names w k j          whether w is among the k names from place j on
 --   bad_name n names i             the same as BadName, computed
 --   name_faults n names k i later  18 at the first bad name among the k from place i on, else what comes later
-use Rattle.std.specs.Prelude.{◌≡◌, ◌⊎◌, Bool, true, false, cond, List, ℕ, zero, suc, ◌+◌, ◌≤◌, ◌<◌, eqb, leb, length, get_or}
+use Rattle.std.specs.Prelude.{◌≡◌, ◌==◌, ◌⊎◌, ◌||◌, Bool, cond, List, ℕ, zero, suc, ◌+◌, ◌≤◌, ◌<◌, leb, length, get_or, take}
+use Rattle.std.specs.List.{list_any}
 use Rattle.network.specs.declared.Answer.{Answer}
 use Rattle.network.specs.Verdict.{answer}
 
@@ -21,12 +21,8 @@ pub record OneToOne (n : ℕ) (names : List ℕ) : Type 0 where
 abbrev pub BadName : ℕ → List ℕ → ℕ → Type 0
 BadName n names i = (n ≤ name names i) ⊎ ((j : ℕ) × (j < i) × (name names j ≡ name names i))
 
-unfoldable pub name_seen : List ℕ → ℕ → ℕ → ℕ → Bool
-name_seen names w zero j = false
-name_seen names w (suc k) j = cond (eqb (name names j) w) true (name_seen names w k (j + 1))
-
 unfoldable pub bad_name : ℕ → List ℕ → ℕ → Bool
-bad_name n names i = cond (leb n (name names i)) true (name_seen names (name names i) i 0)
+bad_name n names i = leb n (name names i) || list_any (λ w. w == name names i) (take i names)
 
 unfoldable pub name_faults : ℕ → List ℕ → ℕ → ℕ → Answer → Answer
 name_faults n names zero i later = later

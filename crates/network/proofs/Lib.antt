@@ -2,6 +2,7 @@
 pub mod PlaceFaults
 pub mod Stands
 pub mod Verdicts
+pub mod Refused
 pub mod FirstFaults
 pub mod TableFaults
 pub mod FaultlessTables

@@ -2,6 +2,7 @@
 use mathlib.Core.Path.{◌≡◌, refl, sym, ◌∙◌, ap}
 use mathlib.Core.Bool.{Bool, true, false, cond}
 use mathlib.Core.List.{List}
+use Rattle.std.proofs.Common.{Option, None, Some}
 use Prim.Native.Nat.{ℕ, zero, suc, ◌+◌, ◌*◌, ◌≤◌, ◌<◌}
 use native.Mathlib.Omega.{arith}
 use native.Mathlib.Decide.{dec_le, ℕ_discrete}
@@ -10,7 +11,9 @@ use borrow.Author.Tests.{eq-eqb, ne_eqb, le-leb, lt-leb}
 use Rattle.network.specs.declared.Answer.{Answer}
 use Rattle.network.specs.Maxima.{atoms_most, places, free}
 use Rattle.network.specs.Network.{Counted}
-use Rattle.network.specs.Verdict.{place_fault, bond_fault, first_fault, or_else, accepted, refusal, check, faults, not_atoms, not_long, sizes, atoms_or_none, WordsBelow}
+use Rattle.network.specs.Verdict.{place_fault, bond_fault, first_fault, or_else, accepted, refusal, check, faults, not_atoms, not_long, sizes, WordsBelow}
+use Rattle.network.specs.Refusals.{network_of}
+use Rattle.network.specs.declared.Network.{Network}
 use Rattle.network.proofs.PlaceFaults.{fault_7}
 
 -- one word, then the rest
@@ -102,33 +105,37 @@ not_atoms_high n l = let one : 1 ≤ n = omega arith in simp (le-leb _ _ one, lt
 pub atoms : (n : ℕ) → 1 ≤ n → n ≤ atoms_most → not_atoms n ≡ false
 atoms n l m = simp (le-leb _ _ l, le-leb _ _ m)
 
-pub atoms_low : (n m : ℕ) → n < 1 → m ≡ 0 → m ≡ atoms_or_none n
-unfolding atoms_or_none
-atoms_low n m l e = rw (not_atoms_low n l) e
+-- what the constructor of networks answers
+pub network_none : (n : ℕ) → ((1 ≤ n) × (n ≤ atoms_most) → ⊥) → not_atoms n ≡ true
+network_none n h = elim (dec_le 1 n) [
+  | yes l ↦ (elim (dec_le n atoms_most) [ yes k ↦ absurd (h (l, k)) | no k ↦ not_atoms_high n (omega arith) ])
+  | no l ↦ not_atoms_low n (omega arith)
+]
 
-pub atoms_high : (n m : ℕ) → atoms_most < n → m ≡ 0 → m ≡ atoms_or_none n
-unfolding atoms_or_none
-atoms_high n m l e = rw (not_atoms_high n l) e
+pub is_none : (n : ℕ) → ((1 ≤ n) × (n ≤ atoms_most) → ⊥) → None ≡ network_of n
+unfolding network_of
+is_none n h = rw (network_none n h) refl
 
-pub atoms_right : (n : ℕ) → 1 ≤ n → n ≤ atoms_most → n ≡ atoms_or_none n
-unfolding atoms_or_none
-atoms_right n l m = rw (atoms n l m)
+pub is_some : (n : ℕ) → 1 ≤ n → n ≤ atoms_most → Some (record { atoms = n }) ≡ network_of n
+unfolding network_of
+is_some n l m = rw (atoms n l m) refl
 
-pub no_atoms : (n m : ℕ) → m ≡ atoms_or_none n → m ≡ 0 → not_atoms n ≡ true
-unfolding atoms_or_none
-no_atoms n m e z = go (not_atoms n) refl (sym e ∙ z)
+pub no_network : (n : ℕ) (o : Option Network) → o ≡ network_of n → o ≡ None → not_atoms n ≡ true
+unfolding network_of
+no_network n o e z = go (not_atoms n) refl (sym e ∙ z)
   where
-    go : (b : Bool) → not_atoms n ≡ b → cond b 0 n ≡ 0 → not_atoms n ≡ true
+    go : (b : Bool) → not_atoms n ≡ b → cond {A = Option Network} b None (Some (record { atoms = n })) ≡ None → not_atoms n ≡ true
     go true h k = h
-    go false h k = not_atoms_low n (omega arith)
+    go false h k = absurd (cc)
 
-pub some_atoms : (n m : ℕ) → m ≡ atoms_or_none n → (m ≡ 0 → ⊥) → Counted n
-some_atoms n m e z = go (dec_le 1 n) (dec_le n atoms_most)
+pub some_network : (n : ℕ) (o : Option Network) (m : Network) → o ≡ network_of n → o ≡ Some m → Counted n
+some_network n o m e z = elim (dec_le 1 n) [
+  | yes l ↦ (elim (dec_le n atoms_most) [ yes k ↦ record { some = l; most = k } | no k ↦ absurd (none (λ w. absurd (omega arith))) ])
+  | no l ↦ absurd (none (λ w. absurd (omega arith)))
+]
   where
-    go : Dec (1 ≤ n) → Dec (n ≤ atoms_most) → Counted n
-    go (yes l) (yes k) = record { some = l; most = k }
-    go (yes l) (no k) = absurd (z (e ∙ sym (atoms_high n 0 (omega arith) refl)))
-    go (no l) _ = absurd (z (e ∙ sym (atoms_low n 0 (omega arith) refl)))
+    none : ((1 ≤ n) × (n ≤ atoms_most) → ⊥) → ⊥
+    none h = let f = is_none n h in cc
 
 pub not_long_lem : (t : List ℕ) (m : ℕ) → (length t ≡ m → ⊥) → not_long t m ≡ true
 not_long_lem t m h = simp (ne_eqb _ _ h)
@@ -136,23 +143,19 @@ not_long_lem t m h = simp (ne_eqb _ _ h)
 pub long : (t : List ℕ) (m : ℕ) → length t ≡ m → not_long t m ≡ false
 long t m h = simp (eq-eqb _ _ h)
 
--- 1 and 4; m is what the constructor of networks gives for n
-module _ (n : ℕ) (t : List ℕ) (a : Answer) (m : ℕ) (e : m ≡ atoms_or_none n) where
-  pub sizes_1 : m ≡ 0 → a ≡ refusal 1 → a ≡ sizes n t (λ b. b) accepted
+-- 1 and 4
+module _ (n : ℕ) (t : List ℕ) where
+  pub sizes_1 : not_atoms n ≡ true → refusal 1 ≡ sizes n t (λ b. b) accepted
   unfolding sizes
-  sizes_1 z h = h ∙ sym (rw (no_atoms n m e z) refl)
+  sizes_1 h = rw h refl
 
-  module _ (z : m ≡ 0 → ⊥) where
-    some : Counted n
-    some = some_atoms n m e z
+  pub sizes_4 : Counted n → (length t ≡ places * n → ⊥) → refusal 4 ≡ sizes n t (λ b. b) accepted
+  unfolding sizes
+  sizes_4 some l = rw (atoms n some.some some.most, not_long_lem t (places * n) l) refl
 
-    pub sizes_4 : (length t ≡ places * n → ⊥) → a ≡ refusal 4 → a ≡ sizes n t (λ b. b) accepted
-    unfolding sizes
-    sizes_4 l h = h ∙ sym (rw (atoms n some.some some.most, not_long_lem t (places * n) l) refl)
-
-    pub sizes_right : length t ≡ places * n → a ≡ accepted → a ≡ sizes n t (λ b. b) accepted
-    unfolding sizes
-    sizes_right l h = h ∙ sym (rw (atoms n some.some some.most, long t (places * n) l) refl)
+  pub sizes_right : Counted n → length t ≡ places * n → accepted ≡ sizes n t (λ b. b) accepted
+  unfolding sizes
+  sizes_right some l = rw (atoms n some.some some.most, long t (places * n) l) refl
 
 module _ (n : ℕ) (t : List ℕ) where
   -- sizes that are refused are refused whatever comes later, and where they are right what comes later decides

@@ -2,5 +2,6 @@
 pub mod Maxima
 pub mod Network
 pub mod Verdict
+pub mod Refusals
 pub mod FirstFault
 pub mod Chain

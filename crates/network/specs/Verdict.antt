@@ -6,7 +6,6 @@
 --   refusal code                 a refusal that names no place
 --   check code bad later         one check of a call: refusal `code` where it is bad, else what comes later
 --   not_atoms n                  n is no number of atoms: 1 to 250
---   atoms_or_none n              n, or 0 where n is no number of atoms
 --   not_long t m                 t has not m words
 --   sizes n t between later      the checks that every call with a table begins with: 1, what is checked between, 4, and what comes later
 --   later_in_row i b             word i has a word before it in its row, and b holds
@@ -37,9 +36,6 @@ check code bad later = cond bad (refusal code) later
 
 abbrev pub not_atoms : ℕ → Bool
 not_atoms n = not (leb 1 n && leb n atoms_most)
-
-unfoldable pub atoms_or_none : ℕ → ℕ
-atoms_or_none n = cond (not_atoms n) 0 n
 
 abbrev pub not_long : List ℕ → ℕ → Bool
 not_long t m = not (eqb (length t) m)

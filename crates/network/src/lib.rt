@@ -4,9 +4,14 @@
 // A bond table has a row of 8 places for each atom; a place holds a neighbour or is free.
 #![tactic(auto)]
 
+mod refusals;
+
 ghost use Rattle.std.specs.Prelude.{◌≡◌, ◌+◌, ◌*◌, ◌≤◌, length};
 ghost use Rattle.network.specs.Maxima.{atoms_most, places, free};
-ghost use Rattle.network.specs.Verdict.{accepted, refusal, atoms_or_none, sizes, stands, in_row};
+ghost use Rattle.network.specs.Refusals.{told, network_of};
+ghost use Rattle.network.specs.Verdict.{accepted, sizes, stands, in_row};
+
+pub use refusals::{Reason, Refusal};
 
 // A network of so many atoms.
 #[derive(Drop)]
@@ -22,29 +27,23 @@ impl Network {
     pub const PLACES: usize = 8;
 
     // The word of a free place.
+    // Kept: a number for none, since the tables that C lends have it.
     pub const FREE: u16 = 65535;
 
-    // A network of n atoms, or of none where n is no number of atoms.
-    pub fn of(n: usize) -> Network
-        ensures { result.atoms ≡ atoms_or_none n }
+    /// A network of n atoms, where there is one.
+    pub fn of(n: usize) -> Option<Network>
+        ensures { result ≡ network_of n }
     {
-        if n < 1 {
-            return Network::none();
+        if (1..=Network::ATOMS).contains(&n) {
+            Some(Network { atoms: n })
+        } else {
+            None
         }
-        if Network::ATOMS < n {
-            return Network::none();
-        }
-        Network { atoms: n }
-    }
-
-    pub fn none() -> Network
-        ensures { result.atoms ≡ 0 }
-    {
-        Network { atoms: 0 }
     }
 }
 
 // The number of a refusal, 0 where a call is accepted, and the row and place that it names.
+// Kept: C's struct `rings_answer` has these fields (include/rings.h); calls answer a Result, which is turned into it for C.
 #[repr(C)]
 #[derive(Drop)]
 pub struct Answer {
@@ -63,31 +62,17 @@ impl Answer {
             place: 0,
         }
     }
-
-    // A refusal that names no place.
-    pub fn refused(code: u8) -> Answer
-        ensures { result ≡ refusal code }
-    {
-        Answer {
-            code: code,
-            row: 0,
-            place: 0,
-        }
-    }
 }
 
 // The number of atoms and the length of a bond table, which every call checks before it reads a word: refusals 1 and 4.
-pub fn sizes(n: usize, table: &[u16]) -> Answer
-    ensures { result ≡ sizes n table.now (λ a. a) accepted }
+pub fn sizes(n: usize, table: &[u16]) -> Result<(), Refusal>
+    ensures { told result ≡ sizes n table.now (λ a. a) accepted }
 {
-    let network = Network::of(n);
-    if network.atoms == 0 {
-        return Answer::refused(1);
-    }
+    Network::of(n).ok_or(Reason::AtomCount)?;
     if table.len() != Network::PLACES * n {
-        return Answer::refused(4);
+        return Err(Reason::TableLength.into());
     }
-    Answer::accepted()
+    Ok(())
 }
 
 // Whether x stands in row y of a table that has such a row.
@@ -105,12 +90,10 @@ fn row_has(table: &[u16], x: usize, y: usize) -> bool
     requires { y * places + places ≤ length table.now }
     ensures { result ≡ stands table.now x y places 0 }
 {
-    let mut p = 0;
-    while p < Network::PLACES {
+    for p in 0..Network::PLACES {
         if table[y * Network::PLACES + p] as usize == x {
             return true;
         }
-        p += 1;
     }
     false
 }

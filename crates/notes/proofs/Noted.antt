@@ -1,14 +1,6 @@
 -- What noting many rings comes to, in closed form.
-use mathlib.Core.Path.{◌≡◌, refl, sym, ap, ◌∙◌, subst}
-use mathlib.Core.Bool.{Bool, true, false, true≢false}
-use mathlib.Core.List.{List, [], ◌∷◌, ◌++◌}
-use Prim.Native.Nat.{ℕ, suc, ◌+◌, ◌<◌, ◌≤◌, zero-le}
-use native.Mathlib.Nat.{add-zero, zero-add, le_refl, le_trans}
-use native.Mathlib.Omega.{arith}
-use lib.ListN.{length, set, length-append}
-use lib.Seq.{sets, length-sets}
-use lib.Dec.{ltb}
-use borrow.Author.Tests.{ltb-true, ltb-false}
+use Rattle.std.proofs.Common.{◌≡◌, refl, sym, ap, ◌∙◌, subst, Bool, true, false, true≢false, List, [], ◌∷◌, ◌++◌, ℕ, suc, ◌+◌, ◌<◌, ◌≤◌, zero-le, add-zero, zero-add, le_refl, le_trans, arith, length, set, length-append, ltb, ltb-true, ltb-false}
+use Rattle.std.proofs.Math.Seq.{sets, length-sets}
 use Rattle.census.specs.Census.{encode_by}
 use Rattle.notes.specs.Noting.{State, state, note, wrote, note_all, none}
 use Rattle.notes.specs.declared.Found.{Found}

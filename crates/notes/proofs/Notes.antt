@@ -1,14 +1,6 @@
 -- Noting rings, one and many.
-use mathlib.Core.Path.{◌≡◌, refl, sym, ◌∙◌, subst}
-use mathlib.Core.Bool.{Bool, true, false, cond}
-use mathlib.Core.List.{List, [], ◌∷◌, ◌++◌}
-use Prim.Native.Nat.{ℕ, suc, ◌+◌, ◌*◌, ◌<◌, ◌≤◌}
-use native.Mathlib.Numerals.{add-one}
-use native.Mathlib.Omega.{arith}
-use lib.ListN.{length}
-use lib.Seq.{take-length, paste, sets, sets-eq}
-use lib.Dec.{ltb}
-use borrow.Author.Tests.{lt-ltb, le-ltb}
+use Rattle.std.proofs.Common.{◌≡◌, refl, sym, ◌∙◌, subst, Bool, true, false, cond, List, [], ◌∷◌, ◌++◌, ℕ, suc, ◌+◌, ◌*◌, ◌<◌, ◌≤◌, add-one, arith, length, ltb, lt-ltb, le-ltb}
+use Rattle.std.proofs.Math.Seq.{take-length, paste, sets, sets-eq}
 use Rattle.ring.specs.Maxima.{ring_most}
 use Rattle.census.specs.Census.{plain}
 use Rattle.notes.specs.Noting.{State, state, note, wrote, note_all, Fits, note_fit}

@@ -1,31 +1,28 @@
--- A number in decimal: written digit by digit, at each way through the tests; what its digits spell; how many it has.
-use mathlib.Core.Path.{◌≡◌, refl, ◌∙◌, ap}
-use mathlib.Core.List.{List, [], ◌∷◌, ◌++◌}
-use Prim.Native.Nat.{ℕ, zero, suc, ◌+◌, ◌-◌, ◌*◌, ◌/◌, ◌%◌, ◌^◌, ◌≤◌, ◌<◌}
-use native.Mathlib.Nat.{pow-suc}
+-- A number in decimal: written digit by digit; what its digits spell; how many it has.
+use Rattle.std.proofs.Common.{◌≡◌, refl, ◌∙◌, ap, ℕ, zero, suc, ◌+◌, ◌-◌, ◌*◌, ◌/◌, ◌%◌, ◌^◌, ◌≤◌, ◌<◌, List, [], ◌∷◌, ◌++◌, length, arith, length-append, pow-suc, lt-ltb, le-ltb}
 use native.Mathlib.Decide.{dec_lt}
-use native.Mathlib.Omega.{arith}
-use borrow.Author.Tests.{lt-ltb, le-ltb}
-use lib.ListN.{length, length-append}
-use Rattle.page.specs.Page.{Page, put, put_all}
 use Rattle.page.specs.Numbers.{digits, digits_most, number, value_of}
-use Rattle.page.proofs.Pages.{put_one, then}
 
-pub digits_none : (left n : ℕ) (s : Page) → left ≡ 0 → s ≡ put_all (digits left n) s
-unfolding digits put_all
-digits_none left n s h = rw h refl
-
-pub digits_one : (left n : ℕ) (s t : Page) → (left ≡ 0 → ⊥) → n < 10 → t ≡ put (48 + n % 10) s → t ≡ put_all (digits left n) s
+-- a number below ten is one digit
+pub number_one : (n : ℕ) → n < 10 → number n ≡ (48 + n % 10) ∷ []
 unfolding digits
-digits_one zero n s t h l e = absurd (h refl)
-digits_one (suc left) n s t h l e = rw (lt-ltb _ _ l) (e ∙ put_one (48 + n % 10) s)
+number_one n h = rw (lt-ltb _ _ h) refl
 
-pub digits_more : (left n : ℕ) (s t r : Page) → (left ≡ 0 → ⊥) → 10 ≤ n → t ≡ put_all (digits (left - 1) (n / 10)) s → r ≡ put (48 + n % 10) t → r ≡ put_all (digits left n) s
+-- more digits than a number has make no difference
+digits_enough : (left n : ℕ) → n < 10 ^ suc left → digits (suc left) n ≡ digits (suc (suc left)) n
 unfolding digits
-digits_more zero n s t r h l e f = absurd (h refl)
-digits_more (suc left) n s t r h l e f =
-    rw (le-ltb _ _ l)
-    (then (digits left (n / 10)) ((48 + n % 10) ∷ []) s t r (e ∙ ap (λ (k : ℕ). put_all (digits k (n / 10)) s) (let d : suc left - 1 ≡ left = omega arith in d)) (f ∙ put_one (48 + n % 10) t))
+digits_enough zero n h = rw (lt-ltb n 10 h) refl
+digits_enough (suc left) n h =
+    elim (dec_lt n 10) [
+      | yes l ↦ rw (lt-ltb _ _ l) refl
+      | no l ↦ (let k : 10 ≤ n = omega arith in
+          rw (le-ltb _ _ k) (ap (λ (ds : List ℕ). ds ++ ((48 + n % 10) ∷ [])) (digits_enough left (n / 10) (omega (arith, pow-suc 10 (suc left))))))
+    ]
+
+-- any other is its tenth, and then a digit
+pub number_more : (n : ℕ) → 10 ≤ n → n < 2 ^ 64 → number n ≡ number (n / 10) ++ ((48 + n % 10) ∷ [])
+unfolding digits
+number_more n h l = rw (le-ltb _ _ h) (ap (λ (ds : List ℕ). ds ++ ((48 + n % 10) ∷ [])) (digits_enough 18 (n / 10) (omega arith)))
 
 value_join : (xs ys : List ℕ) (v : ℕ) → value_of v (xs ++ ys) ≡ value_of (value_of v xs) ys
 unfolding value_of

@@ -1,68 +1,69 @@
 // Bytes and numbers, one after another, written into a lent byte buffer. Where a byte has no room, it and all that follow are left out.
 #![tactic(auto)]
 
-ghost use Rattle.std.specs.Prelude.{◌≡◌, ◌++◌};
-ghost use Rattle.page.specs.Page.{page, put, put_all};
-ghost use Rattle.page.specs.Numbers.{digits, number};
+ghost use Rattle.std.specs.Prelude.{◌≡◌, [], ◌∷◌, ◌++◌};
+ghost use Rattle.page.specs.Page.{page, first_pen, sheet, Puts};
+ghost use Rattle.page.specs.Numbers.{number};
 
-// Where the next byte goes, and whether every byte so far had room.
+// A lent buffer with a pen over it, which is where the next byte goes: nowhere, once a byte had no room.
 #[derive(Drop)]
-pub struct Pen {
-    pub at: usize,
-    pub whole: bool,
+pub struct Page<'a> {
+    out: &'a mut [u8],
+    pen: Option<usize>,
 }
 
-pub fn byte(out: &mut [u8], pen: Pen, letter: u8) -> Pen
-    ensures { page result out.new ≡ put letter (page pen out.old) }
-{
-    if pen.whole {
-        let at = pen.at;
-        if at < out.len() {
-            out[at] = letter;
-            return Pen {
-                at: at + 1,
-                whole: true,
-            };
+impl<'a> Page<'a> {
+    // A page that is written from the first byte of the buffer on.
+    pub fn new(out: &'a mut [u8]) -> Page<'a>
+        ensures blank { sheet result ≡ page first_pen out.old }
+        ensures same_buffer { result.out.ghost_name ≡ out.entry.ghost_name }
+    {
+        Page { out, pen: Some(0) }
+    }
+
+    pub fn byte(&mut self, letter: u8)
+        ensures { Puts (letter ∷ []) self.old self.new }
+    {
+        self.pen = match self.pen {
+            Some(at) if at < self.out.len() => {
+                self.out[at] = letter;
+                Some(at + 1)
+            }
+            _ => None,
+        };
+    }
+
+    pub fn bytes(&mut self, letters: &[u8])
+        ensures { Puts letters.now self.old self.new }
+    {
+        for &letter in letters {
+            self.byte(letter);
         }
-        return Pen { at, whole: false };
     }
-    pen
-}
 
-pub fn bytes(out: &mut [u8], pen: Pen, letters: &[u8]) -> Pen
-    ensures { page result out.new ≡ put_all letters.now (page pen out.old) }
-{
-    let mut p = pen;
-    let mut i = 0;
-    while i < letters.len() {
-        p = byte(out, p, letters[i]);
-        i += 1;
+    // A name, and n in decimal.
+    pub fn named(&mut self, name: &[u8], n: usize)
+        ensures { Puts (name.now ++ number n) self.old self.new }
+    {
+        self.bytes(name);
+        self.number(n);
     }
-    p
-}
 
-// A number of the machine has at most 20 digits.
-const DIGITS: usize = 20;
-
-// A name, and n in decimal.
-pub fn named(out: &mut [u8], pen: Pen, name: &[u8], n: usize) -> Pen
-    ensures { page result out.new ≡ put_all (name.now ++ number n) (page pen out.old) }
-{
-    let before = bytes(out, pen, name);
-    digits(out, before, n, DIGITS)
-}
-
-// The digits of n, of which there are at most `left`.
-fn digits(out: &mut [u8], pen: Pen, n: usize, left: usize) -> Pen
-    ensures { page result out.new ≡ put_all (digits left n) (page pen out.old) }
-{
-    if left == 0 {
-        return pen;
+    // n in decimal.
+    // Kept: std prints numbers too, but says what was written only where it answers Ok, and nothing says that it does.
+    fn number(&mut self, n: usize)
+        ensures { Puts (number n) self.old self.new }
+    {
+        if n >= 10 {
+            self.number(n / 10);
+        }
+        self.byte(b'0' + (n % 10) as u8);
     }
-    let last = b'0' + (n % 10) as u8;
-    if n < 10 {
-        return byte(out, pen, last);
+
+    // How many bytes were written, where all had room.
+    pub fn written(&self) -> Option<usize>
+        ensures { result ≡ self.now.pen }
+    {
+        self.pen
     }
-    let before = digits(out, pen, n / 10, left - 1);
-    byte(out, before, last)
 }

@@ -1,8 +1,6 @@
 -- A renumbering carries the listing of a network's rings to that of the renumbered network.
-use mathlib.Core.Path.{◌≡◌, sym, ◌∙◌, ap, subst₂}
-use mathlib.Core.List.{List}
-use Prim.Native.Nat.{ℕ, suc}
-use lib.ListN.{length, length-map}
+use Rattle.std.proofs.Common.{◌≡◌, sym, ◌∙◌, ap, subst₂, List, ℕ, suc, length}
+use Rattle.std.proofs.lemmas.List.{length-map}
 use Rattle.graph.specs.Writing.{RingReading, OneWriting}
 use Rattle.graph.specs.Listing.{RingListing}
 use Rattle.graph.specs.Carried.{Renaming, KeptBy, CarriedTo}

@@ -1,11 +1,7 @@
 -- Names that name every atom back: there are such, and renumbering by them gives the first table again.
-use mathlib.Core.Path.{◌≡◌, refl, sym, ◌∙◌, ap, subst₂}
-use mathlib.Core.List.{List}
-use Prim.Native.Nat.{ℕ, zero, suc, ◌*◌, ◌<◌}
-use native.Mathlib.Omega.{arith}
+use Rattle.std.proofs.Common.{◌≡◌, refl, sym, ◌∙◌, ap, subst₂, List, ℕ, zero, suc, ◌*◌, ◌<◌, arith, length, eq-eqb, ne_eqb}
 use native.Mathlib.Decide.{ℕ_discrete}
-use lib.ListN.{length, length-map}
-use borrow.Author.Tests.{eq-eqb, ne_eqb}
+use Rattle.std.proofs.lemmas.List.{length-map}
 use Rattle.graph.specs.Lists.{numbers_from}
 use Rattle.graph.proofs.Lists.{get_or_map, length_count, get_or_count}
 use Rattle.network.specs.declared.Answer.{Answer}

@@ -1,5 +1,5 @@
 -- Laws of renumbering.
-pub mod LeastNames
+pub mod RenamedRows
 pub mod PutRows
 pub mod NewRows
 pub mod Outcomes

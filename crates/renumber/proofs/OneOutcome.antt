@@ -1,7 +1,5 @@
 -- The renumbered table is one only, and so is the outcome of a call.
-use mathlib.Core.Path.{◌≡◌, sym, ◌∙◌, ap, subst₂}
-use mathlib.Core.List.{List}
-use Prim.Native.Nat.{ℕ}
+use Rattle.std.proofs.Common.{◌≡◌, sym, ◌∙◌, ap, subst₂, List, ℕ}
 use native.Mathlib.Decide.{ℕ_discrete}
 use Rattle.network.specs.declared.Answer.{Answer}
 use Rattle.network.specs.Network.{Bonded}

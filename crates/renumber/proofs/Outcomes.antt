@@ -1,12 +1,6 @@
 -- The verdict as a chain of its checks, when a call is accepted, and the outcome at each way through the checks.
-use mathlib.Core.Path.{◌≡◌, refl, sym, ◌∙◌, ap}
-use mathlib.Core.Logic.{◌↔◌}
-use mathlib.Core.Bool.{true, false, ◌||◌}
-use mathlib.Core.List.{List}
-use Prim.Native.Nat.{ℕ, ◌*◌}
-use native.Mathlib.Omega.{arith}
+use Rattle.std.proofs.Common.{◌≡◌, refl, sym, ◌∙◌, ap, ◌↔◌, true, false, ◌||◌, List, ℕ, ◌*◌, arith, length}
 use native.Mathlib.Decide.{ℕ_discrete}
-use lib.ListN.{length}
 use Rattle.network.specs.declared.Answer.{Answer}
 use Rattle.network.specs.Maxima.{places}
 use Rattle.network.specs.Network.{IsNetwork}
@@ -83,15 +77,9 @@ module _ (n : ℕ) (t names before : List ℕ) where
     out_sizes e z = refused_with (wrong_sizes n t a e z _) z
 
     module _ (s : Answer) (e : s ≡ sizes n t (λ b. b) accepted) (z : s.code ≡ 0) where
-      out_6 : (Lengths → ⊥) → a ≡ refusal 6 → RenumberOutcome n t names before before a
+      pub out_6 : (Lengths → ⊥) → a ≡ refusal 6 → RenumberOutcome n t names before before a
       unfolding renumber_verdict
       out_6 l h = refused_with (h ∙ sym (sized n t (right_atoms n t s e z) (right_table n t s e z) _ ∙ rw (lengths_wrong l) refl)) (omega (arith, ap code h))
-
-      pub out_6_names : (length names ≡ n → ⊥) → a ≡ refusal 6 → RenumberOutcome n t names before before a
-      out_6_names l = out_6 (λ h. l h.0)
-
-      pub out_6_table : (length before ≡ places * n → ⊥) → a ≡ refusal 6 → RenumberOutcome n t names before before a
-      out_6_table l = out_6 (λ h. l h.1)
 
     module _ (v : length names ≡ n) (u : length before ≡ places * n) where
       pub out_faults : a ≡ verdict n t → (a.code ≡ 0 → ⊥) → RenumberOutcome n t names before before a

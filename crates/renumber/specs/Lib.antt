@@ -1,4 +1,4 @@
--- What comes of a renumbering. Read Outcome and Carried; Rows is how the rows are made.
+-- What comes of a renumbering. Read Outcome and Carried; Rows is what a row of the new table is.
 pub mod Rows
 pub mod Outcome
 pub mod Carried

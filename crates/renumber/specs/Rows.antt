@@ -1,26 +1,25 @@
--- How a row of the new table is made: each place takes the least name above the place before.
+-- What a row of the new table is. The word at place p of a row, as a list, is `get_or row p 0`.
 --
---   Offered names low w least r   r is the lesser of `least` and the name of w, where w is an atom whose name is at least low
---   Least t names x low p r       r is the least name that is at least low, among the atoms at the first p places of row x; free if there is none
---   above row p                   what the word at place p must at least be: more than the word before
---   RowBegun t names x row k      the first k places of atom x's new row, whose word at place p is `row p`
-use Rattle.std.specs.Prelude.{◌≡◌, ◌⊎◌, List, ℕ, zero, suc, ◌≤◌, ◌<◌}
+--   table_row t x          row x of the table t, as a list
+--   OldRow n row           the neighbours in the row are below n, and no two are equal
+--   new_word names w       the word of the new table for the word w: the name of an atom; a free place stays free
+--   NewRow names old new   the neighbours in `new` are the names of those in `old`, and ascend; free places come after
+use Rattle.std.specs.Prelude.{◌≡◌, List, ℕ, cond, eqb, ◌+◌, ◌*◌, ◌<◌, length, get_or, slice_range}
 use Rattle.network.specs.Maxima.{places, free}
-use Rattle.network.specs.Network.{word, Holds}
 use Rattle.names.specs.Names.{name}
 
-pub record Offered (names : List ℕ) (low w least r : ℕ) : Type 0 where
-  pub one : (r ≡ least) ⊎ ((w ≡ free → ⊥) × (name names w ≡ r) × (low ≤ r))
-  pub most : r ≤ least
-  pub under : (w ≡ free → ⊥) → low ≤ name names w → r ≤ name names w
+abbrev pub table_row : List ℕ → ℕ → List ℕ
+table_row t x = slice_range t (x * places) (x * places + places)
 
-pub record Least (t names : List ℕ) (x low p r : ℕ) : Type 0 where
-  pub one : (r ≡ free) ⊎ ((q : ℕ) × (q < p) × Holds t x q × (name names (word t x q) ≡ r) × (low ≤ r))
-  pub under : (q : ℕ) → q < p → Holds t x q → low ≤ name names (word t x q) → r ≤ name names (word t x q)
+pub record OldRow (n : ℕ) (row : List ℕ) : Type 0 where
+  pub long : length row ≡ places
+  pub below : (p : ℕ) → p < places → (get_or row p 0 ≡ free → ⊥) → get_or row p 0 < n
+  pub apart : (p q : ℕ) → p < q → q < places → get_or row p 0 ≡ get_or row q 0 → get_or row p 0 ≡ free
 
-abbrev pub above : (ℕ → ℕ) → ℕ → ℕ
-above row zero = 0
-above row (suc p) = suc (row p)
+abbrev pub new_word : List ℕ → ℕ → ℕ
+new_word names w = cond (eqb w free) free (name names w)
 
-unfoldable pub RowBegun : List ℕ → List ℕ → ℕ → (ℕ → ℕ) → ℕ → Type 0
-RowBegun t names x row k = (p : ℕ) → p < k → Least t names x (above row p) places (row p)
+pub record NewRow (names old new : List ℕ) : Type 0 where
+  pub from : (p : ℕ) → p < places → (get_or new p 0 ≡ free → ⊥) → (q : ℕ) × (q < places) × (get_or old q 0 ≡ free → ⊥) × (name names (get_or old q 0) ≡ get_or new p 0)
+  pub to : (q : ℕ) → q < places → (get_or old q 0 ≡ free → ⊥) → (p : ℕ) × (p < places) × (get_or new p 0 ≡ name names (get_or old q 0))
+  pub rises : (p q : ℕ) → p < q → q < places → (get_or new q 0 ≡ free → ⊥) → get_or new p 0 < get_or new q 0

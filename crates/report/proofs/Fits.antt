@@ -1,43 +1,24 @@
--- What is used of each buffer lies within it: the words of an accepted listing, and the text of every file.
-use mathlib.Core.Path.{◌≡◌, refl, sym, ap}
-use mathlib.Core.List.{List, ◌++◌}
-use Prim.Native.Nat.{ℕ, ◌+◌, ◌≤◌}
-use native.Mathlib.Omega.{arith}
+-- The text of every file fits, and what is used of the lent bytes lies within them.
+use Rattle.std.proofs.Common.{◌≡◌, refl, ap, List, ◌++◌, ℕ, ◌+◌, ◌*◌, ◌≤◌, arith, eq-eqb, ne_eqb, length, take, length-append}
 use native.Mathlib.Decide.{ℕ_discrete, dec_le}
-use borrow.Author.Tests.{eq-eqb, ne_eqb}
-use lib.ListN.{length, take, length-append}
-use lib.Seq.{length-take-le}
 use Rattle.graph.specs.Lists.{◌∈◌, gather}
 use Rattle.graph.specs.Counts.{of_length}
 use Rattle.graph.specs.Listing.{RingListing}
 use Rattle.graph.proofs.Lists.{place_of, length_made}
 use Rattle.network.specs.declared.Answer.{Answer}
+use Rattle.network.specs.Maxima.{places}
 use Rattle.network.specs.Network.{Bonded, IsNetwork}
 use Rattle.network.proofs.Bonds.{ring_atoms}
 use Rattle.ring.specs.Maxima.{ring_most, allowance_most}
-use Rattle.census.specs.declared.Census.{Census}
-use Rattle.census.specs.Census.{limit_of, encode, counts_by, counts_of, census_of, after_list, ListOutcome}
+use Rattle.census.specs.Census.{limit_of, encode, counts_by, counts_of, after_list}
 use Rattle.census.proofs.Passed.{limit_default_lem}
-use Rattle.census.proofs.Settled.{reached, told_list, room_enough, encode_words}
+use Rattle.census.proofs.Settled.{room_enough, encode_words}
+use Rattle.bonds.specs.declared.Reading.{Reading}
 use Rattle.bonds.specs.Bonds.{Bond, table_of}
 use Rattle.bonds.proofs.Tables.{table_network}
-use Rattle.text.specs.Lines.{sizes_text, ring_text, counts_text, total_text, refusal_text}
+use Rattle.text.specs.Lines.{sizes_text, ring_text, counts_text, total_text}
 use Rattle.text.proofs.Lengths.{Short, sizes_length, rings_length, counts_length, total_length, refusal_length}
-use Rattle.report.specs.Report.{list_words, text_bytes, rings_text, ListingText, ReadText, Responds}
-
-pub part_length : (k : ℕ) (l : List ℕ) → k ≤ length l → k ≡ length (take k l)
-part_length k l h = sym (length-take-le k l h)
-
--- an accepted listing has room in the list buffer
-pub words_fit : (n : ℕ) (t : List ℕ) (limit allowance : ℕ) (d d' l l' : List ℕ) (c : Census)
-    → ListOutcome n t limit allowance d d' l l' c → c.answer.code ≡ 0 → c.words ≤ length l
-words_fit n t limit allowance d d' l l' c O z =
-    let S = reached O.census z in
-    let told = told_list encode allowance S.rings (census_of n limit S.rings) c (length l) S.says z in
-    omega (arith, ap (λ (x : Census). x.words) told.0, told.1)
-
-pub refusal_fits : (a : Answer) (l : List ℕ) → text_bytes ≤ length l → length (refusal_text a) ≤ length l
-refusal_fits a l h = omega (arith, refusal_length a)
+use Rattle.report.specs.Report.{list_words, text_bytes, rings_text, ListingText, ReadingText, ReadText, Responds}
 
 counts_length_all : (rings : List (List ℕ)) → length (counts_of rings) ≡ ring_most + 1
 unfolding counts_by
@@ -81,6 +62,14 @@ listing_text_fits n bonds t text N L =
     elim (ℕ_discrete a.code 0) [
       | yes y ↦ omega (arith, ap length (rw (eq-eqb a.code 0 y) at L.says), rings_fit n t N L.rings L.listing bonds (room_enough encode allowance_most L.rings list_words y))
       | no y ↦ omega (arith, ap length (rw (ne_eqb a.code 0 y) at L.says), refusal_length a)
+    ]
+
+-- the text of a reading
+pub reading_text_fits : (r : Reading) (table text : List ℕ) → (r.answer.code ≡ 0 → IsNetwork r.atoms (take (places * r.atoms) table)) → ReadingText r table text → length text ≤ text_bytes
+reading_text_fits r table text networks T =
+    elim (ℕ_discrete r.answer.code 0) [
+      | yes z ↦ listing_text_fits r.atoms r.bonds (take (places * r.atoms) table) text (networks z) (T.listed z)
+      | no z ↦ omega (arith, ap length (T.refused z), refusal_length r.answer)
     ]
 
 -- the text of a file

@@ -6,14 +6,8 @@
 --   molfile_text_one    two texts of a molfile are the same
 --   responds_one        two outcomes of responding are the same, where there is one text
 --   enough_is_read      the text of a network file's first `file_bytes` bytes is the text of the file
-use mathlib.Core.Path.{◌≡◌, sym, ◌∙◌, ap, subst}
-use mathlib.Core.Logic.{◌↔◌}
-use mathlib.Core.List.{List, ◌++◌}
-use Prim.Native.Nat.{ℕ, ◌≤◌}
-use native.Mathlib.Omega.{arith}
+use Rattle.std.proofs.Common.{◌≡◌, sym, ◌∙◌, ap, subst, ◌↔◌, List, ◌++◌, ℕ, ◌≤◌, arith, length, take, drop, take_all}
 use native.Mathlib.Decide.{ℕ_discrete, dec_le}
-use lib.ListN.{length, take, drop}
-use lib.Seq.{take_all}
 use Rattle.graph.proofs.Listings.{ring_listing_unique}
 use Rattle.network.specs.declared.Answer.{Answer}
 use Rattle.network.specs.Network.{Bonded}

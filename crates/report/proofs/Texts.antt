@@ -1,20 +1,13 @@
 -- What stands on the page is the text of the file, at each way through the calls.
-use mathlib.Core.Path.{◌≡◌, refl, sym, ◌∙◌, ap, ap₂, subst}
-use mathlib.Core.List.{List, [], ◌∷◌, ◌++◌}
-use Prim.Native.Nat.{ℕ, ◌*◌, ◌≤◌, ◌<◌}
-use native.Mathlib.Omega.{arith}
+use Rattle.std.proofs.Common.{unwrap_or, ◌≡◌, refl, sym, ◌∙◌, ap, ap₂, subst, List, [], ◌∷◌, ◌++◌, ℕ, ◌*◌, ◌≤◌, ◌<◌, arith, eq-eqb, ne_eqb, ℤ, length, take, drop, take_at}
 use native.Mathlib.Decide.{ℕ_discrete}
-use borrow.Author.Tests.{eq-eqb, ne_eqb}
-use lib.IntN.{ℤ}
-use lib.ListN.{length, take, drop}
-use lib.Seq.{take_at}
 use Rattle.graph.specs.Lists.{◌∈◌, gather}
 use Rattle.graph.proofs.Lists.{sets_front}
 use Rattle.network.specs.declared.Answer.{Answer}
 use Rattle.network.specs.Maxima.{places}
 use Rattle.network.specs.Network.{IsNetwork}
 use Rattle.ring.specs.Maxima.{allowance_most}
-use Rattle.census.specs.declared.Census.{Census}
+use Rattle.census.specs.Told.{Census}
 use Rattle.census.specs.Census.{encode_by, encode, counts_of, census_of, after_list, Searched, ListOutcome}
 use Rattle.census.proofs.Passed.{limit_default_lem, reached_exactly}
 use Rattle.census.proofs.Settled.{code, told_accepted, told_refused, room_enough}
@@ -22,22 +15,19 @@ use Rattle.bonds.specs.declared.Reading.{Reading}
 use Rattle.bonds.specs.Bonds.{Bond, table_of}
 use Rattle.bonds.specs.Outcome.{ReadingOutcome}
 use Rattle.bonds.proofs.Readings.{table_is}
-use Rattle.page.specs.declared.Pen.{Pen}
-use Rattle.page.specs.Page.{Page, page, first_pen, put_all}
+use Rattle.page.specs.declared.Page.{Page}
+use Rattle.page.specs.Page.{Sheet, page, first_pen, put_all, sheet, Puts}
 use Rattle.page.proofs.Pages.{text_fits}
 use Rattle.text.specs.Lines.{ring_text, words_text, sizes_text, counts_text, total_text, listing_text, refusal_text}
 use Rattle.text.proofs.Words.{rings_text_lem}
-use Rattle.report.specs.Report.{table_words, list_words, text_bytes, rings_text, ListingText, ReadText, TextStands, ListsText, WritesReading, Responds}
-use Rattle.report.proofs.Fits.{refusal_fits, listing_text_fits}
+use Rattle.report.specs.Report.{table_words, list_words, rings_text, ListingText, ReadText, TextStands, ReadingText, Responds}
 
--- a text that is written from the first byte on stands there, where it fits
-stood : (text before after : List ℕ) (p : Pen) → page p after ≡ put_all text (page first_pen before) → length text ≤ length before → TextStands text before after p.at
-stood text before after p h fits =
-    let e = h ∙ text_fits text before fits in
-    record { long = ap (λ (s : Page). s.pen.at) e; front = ap (λ (s : Page). s.bytes) e }
-
-pub refusal_stands : (a : Answer) (before after : List ℕ) (p : Pen) → text_bytes ≤ length before → page p after ≡ put_all (refusal_text a) (page first_pen before) → TextStands (refusal_text a) before after p.at
-refusal_stands a before after p room h = stood (refusal_text a) before after p h (refusal_fits a before room)
+-- a text that is put on a blank page stands there, where it fits
+pub stood : {text before : List ℕ} {blank after : Page} {bytes : ℕ} → sheet blank ≡ page first_pen before → Puts text blank after → length text ≤ length before
+    → bytes ≡ unwrap_or after.pen 0 → TextStands text before after.out.now bytes
+stood {text = text} {before = before} blank puts fits told =
+    let e = puts.sheet_after ∙ ap (put_all text) blank ∙ text_fits text before fits in
+    record { long = told ∙ ap (λ (s : Sheet). unwrap_or s.pen 0) e; front = ap (λ (s : Sheet). s.bytes) e }
 
 -- a ring's line for each ring of the list
 encode_gathers : (rings : List (List ℕ)) → encode rings ≡ gather (λ r. length r ∷ r) rings
@@ -97,20 +87,6 @@ module _ (n bonds : ℕ) (t d d' l l' : List ℕ) (c : Census) (N : IsNetwork n 
             ∙ sym (rw (eq-eqb judged.code 0 told.0) refl);
       }
 
-  module _ (before after : List ℕ) where
-    pub lists_refusal : (bytes : ℕ) → (code c ≡ 0 → ⊥) → TextStands (refusal_text c.answer) before after bytes → ListsText n bonds t before after bytes
-    lists_refusal bytes z S = record { text = refusal_text c.answer; lists = text_refused z; stands = S }
-
-    pub lists_rings_lem : (p : Pen) → code c ≡ 0 → text_bytes ≤ length before
-        → page p after ≡ put_all (listing_text n bonds (take c.words l') c.counts c.total) (page first_pen before) → ListsText n bonds t before after p.at
-    lists_rings_lem p z room h =
-        let text = listing_text n bonds (take c.words l') c.counts c.total in
-        record {
-          text = text;
-          lists = text_listed z;
-          stands = stood text before after p h (omega (arith, listing_text_fits n bonds t text N (text_listed z), room));
-        }
-
 -- reading a file into a table, and listing the network that it gives, gives the file's text
 module _ {says : Answer} {value : ℕ → ℤ} {Gives : ℕ → List Bond → Type 0} {table table' : List ℕ} {r : Reading} (R : ReadingOutcome says value Gives table table' r) where
   pub read_refused : (r.answer.code ≡ 0 → ⊥) → ReadText says Gives (refusal_text r.answer)
@@ -134,25 +110,14 @@ module _ {says : Answer} {value : ℕ → ℤ} {Gives : ℕ → List Bond → Ty
         };
       }
 
-  pub responds_reading : {before after : List ℕ} {bytes : ℕ} → text_bytes ≤ length before → WritesReading r table' before after bytes → Responds (ReadText says Gives) before after bytes
-  responds_reading room W = record {
-    short = λ h. absurd (omega arith);
-    written = λ _. elim (ℕ_discrete r.answer.code 0) [
-      | yes z ↦ (let L = W.listed z in (L.text, read_listed L.text z L.lists, L.stands))
-      | no z ↦ (refusal_text r.answer, read_refused z, W.refused z)
-    ];
-  }
+  pub read_text : (text : List ℕ) → ReadingText r table' text → ReadText says Gives text
+  read_text text T = elim (ℕ_discrete r.answer.code 0) [
+    | yes z ↦ read_listed text z (T.listed z)
+    | no z ↦ subst (ReadText says Gives) (sym (T.refused z)) (read_refused z)
+  ]
 
-pub responds_short : {Text : List ℕ → Type 0} {before : List ℕ} → length before < text_bytes → Responds Text before before 0
-responds_short h = record { short = λ _. (refl, refl); written = λ room. absurd (omega arith) }
-
--- what is written of a reading, refused or accepted
-module _ {r : Reading} {table before after : List ℕ} {bytes : ℕ} where
-  pub writes_refusal : (r.answer.code ≡ 0 → ⊥) → TextStands (refusal_text r.answer) before after bytes → WritesReading r table before after bytes
-  writes_refusal z S = record { refused = λ _. S; listed = λ y. absurd (z y) }
-
-  pub writes_network : r.answer.code ≡ 0 → ListsText r.atoms r.bonds (take (places * r.atoms) table) before after bytes → WritesReading r table before after bytes
-  writes_network z L = record { refused = λ y. absurd (y z); listed = λ _. L }
+pub responds_weaker : {Text Said : List ℕ → Type 0} {before after : List ℕ} {bytes : ℕ} → ((text : List ℕ) → Text text → Said text) → Responds Text before after bytes → Responds Said before after bytes
+responds_weaker says R = record { short = R.short; written = λ room. let W = R.written room in (W.0, says W.0 W.1, W.2) }
 
 -- a file that is read into a table of the most words is judged as its text has it
 pub most_words : (verdict : ℕ → Answer) {value : ℕ → ℤ} {Gives : ℕ → List Bond → Type 0} {table table' : List ℕ} {r : Reading} → length table ≡ table_words

@@ -13,16 +13,18 @@
 --   FileText file text            the text of a network file
 --   MolfileText file text         the text of a molfile
 --   TextStands text before after bytes    the text stands at the front of the lent bytes, whose rest stays, and its length is answered
---   ListsText n bonds t before after bytes    the text of a network stands there
---   WritesReading r table before after bytes  the text of a reading stands there: of the refusal, or of the network whose rows stand first
---                                 in the table
+--   ReadingText r table text      the text of a reading: of the refusal, or of the network whose rows stand first in the table
+--   blank_table                   the table that the reader is lent
+--   TextOfReading Reads text      the text of a reading and a table that a reader may give, where `Reads` says which these are
+--   ReadsNetworks Reads           whatever it gives and accepts, the rows of a network stand first in the table
+--   Prints Text before after      a Text is put on the page
 --   Responds Text before after bytes  what comes of responding: a Text stands there; where fewer than `text_bytes` are lent, nothing
-use Rattle.std.specs.Prelude.{◌≡◌, cond, List, ◌++◌, ℕ, ◌+◌, ◌*◌, ◌≤◌, ◌<◌, eqb, length, take, drop}
+use Rattle.std.specs.Prelude.{◌≡◌, cond, List, ◌++◌, ℕ, ◌+◌, ◌*◌, ◌≤◌, ◌<◌, eqb, length, take, drop, replicate}
 use Rattle.graph.specs.Lists.{gather}
 use Rattle.graph.specs.Listing.{RingListing}
 use Rattle.network.specs.declared.Answer.{Answer}
 use Rattle.network.specs.Maxima.{atoms_most, places}
-use Rattle.network.specs.Network.{Bonded, Counted}
+use Rattle.network.specs.Network.{Bonded, Counted, IsNetwork}
 use Rattle.ring.specs.Maxima.{allowance_most}
 use Rattle.census.specs.Census.{limit_of, counts_of, after_list}
 use Rattle.bonds.specs.declared.Reading.{Reading}
@@ -31,6 +33,8 @@ use Rattle.bnw.specs.File.{head_length, bond_length, bonds_most}
 use Rattle.bnw.specs.Reading.{read_verdict, IsFile}
 use Rattle.molfile.specs.Molfile.{MolfileOf}
 use Rattle.molfile.specs.Judging.{molfile_verdict}
+use Rattle.page.specs.declared.Page.{Page}
+use Rattle.page.specs.Page.{Puts}
 use Rattle.text.specs.Lines.{sizes_text, ring_text, counts_text, total_text, refusal_text}
 
 abbrev pub file_bytes : ℕ
@@ -81,14 +85,26 @@ pub record TextStands (text before after : List ℕ) (bytes : ℕ) : Type 0 wher
   pub long : bytes ≡ length text
   pub front : after ≡ text ++ drop (length text) before
 
-pub record ListsText (n bonds : ℕ) (t before after : List ℕ) (bytes : ℕ) : Type 0 where
-  pub text : List ℕ
-  pub lists : ListingText n bonds t text
-  pub stands : TextStands text before after bytes
+pub record ReadingText (r : Reading) (table text : List ℕ) : Type 0 where
+  pub refused : (r.answer.code ≡ 0 → ⊥) → text ≡ refusal_text r.answer
+  pub listed : r.answer.code ≡ 0 → ListingText r.atoms r.bonds (take (places * r.atoms) table) text
 
-pub record WritesReading (r : Reading) (table before after : List ℕ) (bytes : ℕ) : Type 0 where
-  pub refused : (r.answer.code ≡ 0 → ⊥) → TextStands (refusal_text r.answer) before after bytes
-  pub listed : r.answer.code ≡ 0 → ListsText r.atoms r.bonds (take (places * r.atoms) table) before after bytes
+abbrev pub blank_table : List ℕ
+blank_table = replicate table_words 0
+
+pub record TextOfReading (Reads : Reading → List ℕ → Type 0) (text : List ℕ) : Type 0 where
+  pub reading : Reading
+  pub table : List ℕ
+  pub reads : Reads reading table
+  pub says : ReadingText reading table text
+
+abbrev pub ReadsNetworks : (Reading → List ℕ → Type 0) → Type 0
+ReadsNetworks Reads = (r : Reading) (table : List ℕ) → Reads r table → r.answer.code ≡ 0 → IsNetwork r.atoms (take (places * r.atoms) table)
+
+pub record Prints (Text : List ℕ → Type 0) (before after : Page) : Type 0 where
+  pub text : List ℕ
+  pub is_text : Text text
+  pub puts : Puts text before after
 
 pub record Responds (Text : List ℕ → Type 0) (before after : List ℕ) (bytes : ℕ) : Type 0 where
   pub short : length before < text_bytes → (bytes ≡ 0) × (after ≡ before)

@@ -3,12 +3,13 @@
 
 mod writing;
 
-ghost use Rattle.std.specs.Prelude.{◌≡◌, ◌+◌, ◌-◌, ◌^◌, ◌<◌, ◌≤◌, min, length, replicate};
+ghost use Rattle.std.specs.Prelude.{◌≡◌, ◌+◌, ◌-◌, ◌^◌, ◌<◌, ◌≤◌, min};
 ghost use Rattle.graph.specs.Graph.{around};
 ghost use Rattle.ring.specs.Maxima.{ring_least, ring_most, limit_default, allowance_most};
-ghost use Rattle.ring.specs.Writes.{length_of, ring_words, length_from, atoms_from};
+ghost use Rattle.ring.specs.Writes.{ring_of, ring_read};
 
 // A ring of `len` atoms, in order round the ring; the words after them are 0.
+// Kept: an array with its length beside it, since the library has no heap.
 #[derive(Drop)]
 pub struct Ring {
     pub len: usize,
@@ -28,27 +29,22 @@ impl Ring {
     // The most rings that a search may be allowed.
     pub const ALLOWANCE: usize = 1000000;
 
-    // A ring of these atoms, or of none where they are too few or too many.
-    pub fn of(words: &[u16]) -> Ring
-        ensures { (result.len ≡ length_of (length words.now)) × (result.atoms ≡ ring_words words.now) }
+    // The ring of these atoms, where they are neither too few nor too many.
+    pub fn of(words: &[u16]) -> Option<Ring>
+        ensures { result ≡ ring_of words.now }
     {
         Ring::read(words, 0, true)
     }
 
-    // The ring of these atoms read from a place on, onwards or backwards, or none where there is no such ring or place.
-    pub fn read(words: &[u16], start: usize, onwards: bool) -> Ring
-        ensures { (result.len ≡ length_from (length words.now) start) × (result.atoms ≡ atoms_from words.now start onwards) }
+    // The ring of these atoms read from a place on, onwards or backwards, where there is such a ring and such a place.
+    pub fn read(words: &[u16], start: usize, onwards: bool) -> Option<Ring>
+        ensures { result ≡ ring_read words.now start onwards }
     {
-        if words.len() < Ring::LEAST {
-            return Ring::none();
+        if (Ring::LEAST..=Ring::LENGTH).contains(&words.len()) && start < words.len() {
+            Some(writing::read(words, start, onwards))
+        } else {
+            None
         }
-        if Ring::LENGTH < words.len() {
-            return Ring::none();
-        }
-        if words.len() <= start {
-            return Ring::none();
-        }
-        writing::read(words, start, onwards)
     }
 
     // The shorter way round a ring of k between places g apart. Where the ring has fewer places there is no such way, and the
@@ -58,15 +54,6 @@ impl Ring {
     {
         let back = std::num::wrapping_sub_usize(k, g);
         if g < back { g } else { back }
-    }
-
-    pub fn none() -> Ring
-        ensures { (result.len ≡ 0) × (result.atoms ≡ replicate ring_most 0) }
-    {
-        Ring {
-            len: 0,
-            atoms: [0u16; Ring::LENGTH],
-        }
     }
 }
 

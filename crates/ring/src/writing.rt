@@ -1,24 +1,22 @@
 // A ring read from one of its places on.
 ghost use Rattle.std.specs.Prelude.{◌≡◌, ◌<◌, ◌≤◌, length};
 ghost use Rattle.ring.specs.Maxima.{ring_most};
-ghost use Rattle.ring.specs.Writes.{padded, place_at, read_from};
+ghost use Rattle.ring.specs.Writes.{as_ring, place_at, read_from};
 
 use crate::Ring;
 
 // The ring read from a place on, onwards or backwards.
 pub fn read(ring: &[u16], start: usize, onwards: bool) -> Ring
     requires { (start < length ring.now) × (length ring.now ≤ ring_most) }
-    ensures { (result.len ≡ length ring.now) × (result.atoms ≡ padded (read_from ring.now start onwards)) }
+    ensures { result ≡ as_ring (read_from ring.now start onwards) }
 {
     let mut atoms = [0u16; Ring::LENGTH];
-    let mut i = 0;
-    while i < ring.len() {
+    for i in 0..ring.len() {
         atoms[i] = ring[place_at(ring.len(), start, onwards, i)];
-        i += 1;
     }
     Ring {
         len: ring.len(),
-        atoms: atoms,
+        atoms,
     }
 }
 
@@ -28,7 +26,8 @@ fn place_at(k: usize, start: usize, onwards: bool, i: usize) -> usize
     ensures { (result ≡ place_at k start onwards i) × (result < k) }
 {
     if onwards {
-        return (start + i) % k;
+        (start + i) % k
+    } else {
+        (start + (k - i)) % k
     }
-    (start + (k - i)) % k
 }

@@ -8,13 +8,11 @@ mod models;
 mod renumberings;
 mod searches;
 
-use network::Network;
 use std::io;
 
 // Each file's cases are given the table of Fig. 1.
 fn main(rt: HostRuntime) -> io::Result<()> {
-    let mut figure = [Network::FREE; 56];
-    models::figure(&mut figure);
+    let figure = models::figure();
     candidates::run(&rt, &figure)?;
     searches::run(&rt, &figure)?;
     examples::run(&rt, &figure)?;

@@ -2,6 +2,8 @@
 //
 // Each function passes on one call and has that call's contract; a slice crosses as pointer and length, an
 // answer that holds an enum as a flat struct (`flat`).
+// Kept: names, parameters and answers are C's (include/rings.h), so a number of bytes is answered as it is, a refusal in an answer's fields, and
+// calls of one shape are functions of their own.
 #![tactic(auto)]
 
 ghost use Rattle.std.specs.Prelude.{◌≡◌};
@@ -26,7 +28,7 @@ use network::Answer;
 pub extern "C" fn rings_validate(n: usize, table: &[u16]) -> Answer
     ensures { result ≡ verdict n table.now }
 {
-    validator::validate(n, table)
+    validator::validate(n, table).into()
 }
 
 // The distances between all atoms.
@@ -34,7 +36,7 @@ pub extern "C" fn rings_validate(n: usize, table: &[u16]) -> Answer
 pub extern "C" fn rings_distances(n: usize, table: &[u16], dist: &mut [u8]) -> Answer
     ensures { DistancesOutcome n table.now dist.old dist.new result }
 {
-    distance::distances(n, table, dist)
+    distance::distances(n, table, dist).into()
 }
 
 // The test of one candidate ring.
@@ -47,8 +49,7 @@ pub extern "C" fn rings_test(
 ) -> FlatCandidate
     ensures { PassedOn flat_candidate (CandidateOutcome n table.now ring.now dist.old dist.new) result }
 {
-    let tested = candidate::test(n, table, ring, dist);
-    flat::flat_candidate(tested)
+    candidate::test(n, table, ring, dist).into()
 }
 
 // The number of shortest-path rings of each length.
@@ -62,8 +63,7 @@ pub extern "C" fn rings_count(
 ) -> FlatCensus
     ensures { PassedOn flat_census (CountOutcome n table.now limit allowance dist.old dist.new) result }
 {
-    let census = search::count(n, table, limit, allowance, dist);
-    flat::flat_census(census)
+    search::count(n, table, limit, allowance, dist).into()
 }
 
 // The same, and the rings themselves.
@@ -78,8 +78,7 @@ pub extern "C" fn rings_list(
 ) -> FlatCensus
     ensures { PassedOn flat_census (ListOutcome n table.now limit allowance dist.old dist.new list.old list.new) result }
 {
-    let census = search::list(n, table, limit, allowance, dist, list);
-    flat::flat_census(census)
+    search::list(n, table, limit, allowance, dist, list).into()
 }
 
 // The table under new numbers of the atoms.
@@ -92,7 +91,7 @@ pub extern "C" fn rings_renumber(
 ) -> Answer
     ensures { RenumberOutcome n table.now names.now renamed.old renamed.new result }
 {
-    renumber::renumber(n, table, names, renamed)
+    renumber::renumber(n, table, names, renamed).into()
 }
 
 // The network of a file.
@@ -116,7 +115,7 @@ pub extern "C" fn rings_read_molfile(file: &[u8], table: &mut [u16]) -> Reading
 pub extern "C" fn rings_write(n: usize, table: &[u16], file: &mut [u8]) -> FileWritten
     ensures { WriteOutcome n table.now file.old file.new result }
 {
-    bnw_writer::write(n, table, file)
+    bnw_writer::write(n, table, file).into()
 }
 
 // What the listing program prints for a network file.

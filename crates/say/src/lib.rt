@@ -1,79 +1,57 @@
-// Printing, for the programs that run cases: a case's name, then its numbers. What calls answer is in `results`.
+// Printing, for the programs that run cases: how an answer, a table's words and rows of bytes are shown. What calls answer is in `results`.
 #![tactic(auto)]
 
-pub mod results;
+mod results;
 
 use network::{Answer, Network};
-use std::io;
-use std::io::Write;
+use std::{fmt, io};
 
-pub fn text(rt: &impl Print, letters: &[u8]) -> io::Result<()> {
-    io::writer(rt).write_all(letters)
+/// A value as the programs show it.
+#[derive(Drop)]
+pub struct Shown<'a, T>(pub &'a T);
+
+// Its code, row and place.
+impl fmt::Display for Shown<'_, Answer> {
+    fn fmt<W: fmt::Write>(&self, f: &mut fmt::Formatter<W>) -> fmt::Result {
+        let answer = self.0;
+        write!(f, "{} {} {}", answer.code, answer.row, answer.place)
+    }
 }
 
-pub fn line(rt: &impl Print) -> io::Result<()> {
-    text(rt, b"\n")
-}
+/// The words of a table or a list, a stroke for a free place.
+#[derive(Drop)]
+pub struct ShownWords<'a>(pub &'a [u16]);
 
-pub fn number(rt: &impl Print, n: usize) -> io::Result<()> {
-    print!(rt; " {n}")
-}
-
-pub fn named(rt: &impl Print, name: &[u8], n: usize) -> io::Result<()> {
-    text(rt, name)?;
-    number(rt, n)
-}
-
-// An answer's code, row and place.
-pub fn answer(rt: &impl Print, a: Answer) -> io::Result<()> {
-    text(rt, b":")?;
-    number(rt, a.code as usize)?;
-    number(rt, a.row)?;
-    number(rt, a.place)
-}
-
-// The first `count` words.
-pub fn words(rt: &impl Print, list: &[u16], count: usize) -> io::Result<()> {
-    let mut i = 0;
-    while i < list.len() {
-        if count <= i {
-            return Ok(());
+impl fmt::Display for ShownWords<'_> {
+    fn fmt<W: fmt::Write>(&self, f: &mut fmt::Formatter<W>) -> fmt::Result {
+        for word in self.0 {
+            if *word == Network::FREE {
+                f.write_str(" -")?;
+            } else {
+                write!(f, " {word}")?;
+            }
         }
-        word(rt, list[i])?;
-        i += 1;
+        Ok(())
     }
-    Ok(())
 }
 
-// A word of a table or a list, a stroke for a free place.
-fn word(rt: &impl Print, x: u16) -> io::Result<()> {
-    if x == Network::FREE {
-        return text(rt, b" -");
+/// Bytes, as numbers.
+#[derive(Drop)]
+pub struct ShownBytes<'a>(pub &'a [u8]);
+
+impl fmt::Display for ShownBytes<'_> {
+    fn fmt<W: fmt::Write>(&self, f: &mut fmt::Formatter<W>) -> fmt::Result {
+        for byte in self.0 {
+            write!(f, " {byte}")?;
+        }
+        Ok(())
     }
-    number(rt, x as usize)
 }
 
 // Bytes, `width` to a line.
 pub fn rows(rt: &impl Print, bytes: &[u8], width: usize) -> io::Result<()> {
-    let mut i = 0;
-    let mut left = width;
-    while i < bytes.len() {
-        byte(rt, bytes[i])?;
-        left = next_left(rt, left, width)?;
-        i += 1;
+    for row in bytes.chunks(width.max(1)) {
+        println!(rt; "{}", ShownBytes(row))?;
     }
     Ok(())
-}
-
-fn byte(rt: &impl Print, x: u8) -> io::Result<()> {
-    number(rt, x as usize)
-}
-
-// How many are to come on the line, which ends where there are none.
-fn next_left(rt: &impl Print, left: usize, width: usize) -> io::Result<usize> {
-    if left <= 1 {
-        line(rt)?;
-        return Ok(width);
-    }
-    Ok(left - 1)
 }

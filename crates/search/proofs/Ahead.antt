@@ -1,25 +1,16 @@
 -- The look ahead, and where it may start.
-use mathlib.Core.Path.{◌≡◌, refl, sym, ◌∙◌, subst}
-use mathlib.Core.Bool.{Bool, true, false, ◌&&◌, and-false}
-use mathlib.Core.Logic.{◌⊎◌, ⊎_elim, inl, inr}
-use mathlib.Core.List.{List, [], ◌∷◌, ◌++◌}
-use Prim.Native.Nat.{ℕ, zero, suc, ◌+◌, ◌-◌, ◌/◌, ◌<◌, ◌≤◌}
-use native.Mathlib.Nat.{lt-suc_self, lt_trans}
-use native.Mathlib.Numerals.{add-one}
-use native.Mathlib.Omega.{arith}
-use lib.ListN.{length, get_or, take, set, length-append, get_or-append}
+use Rattle.std.proofs.Common.{◌≡◌, refl, ◌∙◌, Bool, true, false, ◌&&◌, ◌⊎◌, ⊎_elim, inl, inr, List, [], ◌∷◌, ◌++◌, ltb, eqb, ℕ, zero, suc, ◌+◌, ◌-◌, ◌/◌, ◌<◌, ◌≤◌, Option, None, Some, length, get_or, arith, length-append, add-one}
+use Rattle.std.proofs.lemmas.Bool.{lt-ltb, le-ltb, ltb-true, ltb-false, eq-eqb, ne_eqb}
+use mathlib.Core.Bool.{and-false}
+use native.Mathlib.Nat.{lt-suc_self, lt_trans, le_refl}
+use lib.ListN.{get_or-append}
 use lib.Seq.{get_or-append_seam}
-use lib.Dec.{eqb, ltb}
-use borrow.Author.Tests.{lt-ltb, le-ltb, ltb-true, ltb-false, eq-eqb, ne_eqb}
 use Rattle.graph.specs.Graph.{around}
 use Rattle.distance.specs.Distances.{distance}
-use Rattle.ring.specs.Maxima.{ring_most}
-use Rattle.search.specs.State.{PathIn}
-use Rattle.paths.specs.Search.{Test, all_below, pair_fits, fits_before, follows}
-use Rattle.paths.specs.Turn.{reaches, seen, look_ahead, stood, Hint, Looks, NextAt}
+use Rattle.paths.specs.Search.{all_below, pair_fits, fits_before}
+use Rattle.paths.specs.Turn.{any_below, reaches, seen, look_ahead, stood, Hint}
 use Rattle.paths.proofs.Below.{any_found, any_none}
-use Rattle.search.proofs.Paths.{grown_path}
-use Rattle.search.proofs.Turns.{look_past, look_is}
+use Rattle.search.specs.Near.{NoneAt, FirstAt, IsFirstAt}
 
 all_same : (f g : ℕ → Bool) (n : ℕ) → ((i : ℕ) → i < n → f i ≡ g i) → all_below n f ≡ all_below n g
 unfolding all_below
@@ -45,6 +36,10 @@ swap true true false h = refl
 swap true true true h = h
 
 module _ (n : ℕ) (dist : List ℕ) (k : ℕ) (path : List ℕ) (a : ℕ) where
+  -- no atom below y is seen
+  abbrev pub NoneSeen : ℕ → Type 0
+  NoneSeen y = (z : ℕ) → z < y → seen n dist k path a z ≡ false
+
   seen_dim : (y : ℕ) → stood n dist k path y ≡ false → seen n dist k path a y ≡ false
   unfolding stood reaches
   seen_dim y h = dim (ltb (get_or path 0 0) y) (eqb (distance dist n a y) (around k (k / 2 + 1 - length path))) (fits_before n dist k path (length path) (k / 2 + 1) y) h
@@ -61,6 +56,10 @@ module _ (n : ℕ) (dist : List ℕ) (k : ℕ) (path : List ℕ) (a : ℕ) where
   unfolding reaches
   seen_hit y lt e h = rw (lt-ltb (get_or path 0 0) y lt, eq-eqb (distance dist n a y) (around k (k / 2 + 1 - length path)) e) h
 
+  look_is : (b : Bool) → length path ≤ k / 2 → any_below n (seen n dist k path a) ≡ b → look_ahead n dist k path a ≡ b
+  unfolding look_ahead
+  look_is b le h = rw (le-ltb (k / 2) (length path) le) h
+
   module _ (some : 0 < length path) where
     longer : length (path ++ (a ∷ [])) ≡ suc (length path)
     longer = length-append path (a ∷ []) ∙ add-one (length path)
@@ -73,78 +72,60 @@ module _ (n : ℕ) (dist : List ℕ) (k : ℕ) (path : List ℕ) (a : ℕ) where
     unfolding stood reaches fits_before all_below pair_fits
     stood_longer y h =
         rw (front, longer, all_same (pair_fits n dist k (path ++ (a ∷ [])) (k / 2 + 1) y) (pair_fits n dist k path (k / 2 + 1) y) (length path) (λ i l. rw (get_or-append path (a ∷ []) 0 i l)), get_or-append_seam path a [] 0)
-        (swap (ltb (get_or path 0 0) y) (eqb (distance dist n a y) (around k (k / 2 + 1 - length path))) (all_below (length path) (pair_fits n dist k path (k / 2 + 1) y)) h)
+        (swap (ltb (get_or path 0 0) y) (eqb (distance dist n a y) (around k (k / 2 + 1 - length path))) (fits_before n dist k path (length path) (k / 2 + 1) y) h)
 
-    hint_next : (from y : ℕ) → Hint n dist k path from → from ≤ y → y ≤ n → ((z : ℕ) → z < y → seen n dist k path a z ≡ false) → Hint n dist k (path ++ (a ∷ [])) y
+    hint_next : (from y : ℕ) → Hint n dist k path from → from ≤ y → y ≤ n → NoneSeen y → Hint n dist k (path ++ (a ∷ [])) y
     hint_next from y h le ge out =
         record { above = rw front (let q = h.above in omega arith); within = ge; barren = λ _ z l. stood_longer z (out z l) }
-
-    hint_past : (from : ℕ) → Hint n dist k path from → k / 2 < length path → Hint n dist k (path ++ (a ∷ [])) from
-    hint_past from h lt =
-        record { above = rw front h.above; within = h.within; barren = λ le z l. absurd (omega (arith, longer)) }
 
 -- the first atom's own hint
 pub hint_first : (n : ℕ) (dist : List ℕ) (k a : ℕ) → a < n → Hint n dist k (a ∷ []) (a + 1)
 unfolding stood
 hint_first n dist k a lt = record { above = omega arith; within = omega arith; barren = λ _ y l. rw (le-ltb a y (omega arith)) }
 
--- the answers
+-- a look ahead under way: r is the first atom at the distance w from a place on, below which none is seen
+pub record Looking (n : ℕ) (dist : List ℕ) (k : ℕ) (path : List ℕ) (a w from : ℕ) (r : Option ℕ) : Type 0 where
+  pub start : ℕ
+  pub after : from ≤ start
+  pub unseen : NoneSeen n dist k path a start
+  pub first : FirstAt n dist a w start r
 
-pub looks_none : (b : Bool) (n : ℕ) (dist : List ℕ) (k : ℕ) (path : List ℕ) → false ≡ b → Looks b n dist k path 0
-looks_none b n dist k path h = record { no = λ _. sym h; yes = λ f. absurd (f refl) }
+-- the atoms that are left to look at
+abbrev pub ahead : ℕ → Option ℕ → ℕ
+ahead n None = 0
+ahead n (Some y) = n - y
 
-pub looks_same : (b b' : Bool) (n : ℕ) (dist : List ℕ) (k : ℕ) (path : List ℕ) (r : ℕ) → b ≡ b' → Looks b n dist k path r → Looks b' n dist k path r
-looks_same b b' n dist k path r e h = subst (λ (x : Bool). Looks x n dist k path r) e h
-
--- passed by the scan of the distances, as by the hint
-pub seen_next : (n : ℕ) (dist : List ℕ) (k : ℕ) (path : List ℕ) (len a w from r y : ℕ) → length path ≡ len → w ≡ around k (k / 2 + 1 - len) → NextAt n dist a w from r → ((z : ℕ) → z < from → seen n dist k path a z ≡ false)
-    → y < r → seen n dist k path a y ≡ false
-seen_next n dist k path len a w from r y q ew h out lt =
-    ⊎_elim (λ l. out y l) (λ g. seen_far n dist k path a y (rw (q, ← ew) (h.passed y g lt))) (lt_or_ge y from)
-
-module _ (n : ℕ) (dist : List ℕ) (k : ℕ) (path : List ℕ) (len a from : ℕ) (q : length path ≡ len) (some : 0 < len) (h : Hint n dist k path from) where
-  pub looks_past : k / 2 < len → Looks (look_ahead n dist k path a) n dist k (path ++ (a ∷ [])) from
+module _ (n : ℕ) (dist : List ℕ) (k : ℕ) (path : List ℕ) (a from : ℕ) (some : 0 < length path) (h : Hint n dist k path from) where
+  pub looks_past : k / 2 < length path → (look_ahead n dist k path a ≡ true) × Hint n dist k (path ++ (a ∷ [])) from
+  unfolding look_ahead
   looks_past lt =
-      record {
-        no = λ e. absurd (omega (arith, h.above));
-        yes = λ _. (sym (look_past n dist k path len a q lt), hint_past n dist k path a (rw q some) from h (rw q lt));
-      }
+      (rw (lt-ltb (k / 2) (length path) lt), record { above = rw (front n dist k path a some) h.above; within = h.within; barren = λ le z l. absurd (omega (arith, longer n dist k path a some)) })
 
-  module _ (le : len ≤ k / 2) where
-    pub seen_start : (y : ℕ) → y < from → seen n dist k path a y ≡ false
-    seen_start y lt = seen_dim n dist k path a y (h.barren (rw q le) y lt)
+  module _ (le : length path ≤ k / 2) (w : ℕ) (ew : w ≡ around k (k / 2 + 1 - length path)) where
+    pub looking_first : (r : Option ℕ) → FirstAt n dist a w from r → Looking n dist k path a w from r
+    looking_first r f = record { start = from; after = le_refl _; unseen = λ z lt. seen_dim n dist k path a z (h.barren le z lt); first = f }
 
-    module _ (y w : ℕ) (ge : from ≤ y) (ew : w ≡ around k (k / 2 + 1 - len)) (out : (z : ℕ) → z < y → seen n dist k path a z ≡ false) where
-      pub looks_yes : y < n → distance dist n a y ≡ w → fits_before n dist k path len (k / 2 + 1) y ≡ true → Looks (look_ahead n dist k path a) n dist k (path ++ (a ∷ [])) y
-      looks_yes lt e f =
-          let high : get_or path 0 0 < y = let z = h.above in omega arith in
-          let hit : seen n dist k path a y ≡ true = seen_hit n dist k path a y high (rw q (e ∙ ew)) (rw q f) in
-          record {
-            no = λ z. absurd (omega arith);
-            yes = λ _. (look_is n dist k path len a q true le (any_found _ n y lt hit), hint_next n dist k path a (rw q some) from y h ge (omega arith) out);
-          }
+    module _ (r : Option ℕ) (l : Looking n dist k path a w from r) where
+      unseen_till : (y z : ℕ) → NoneAt n dist a w l.start y → z < y → seen n dist k path a z ≡ false
+      unseen_till y z f lt = ⊎_elim (λ lt. l.unseen z lt) (λ ge. seen_far n dist k path a z (rw (← ew) (f z ge lt))) (lt_or_ge z l.start)
 
-      -- where y does not fit, it is passed
-      pub seen_on : fits_before n dist k path len (k / 2 + 1) y ≡ false → (z : ℕ) → z < y + 1 → seen n dist k path a z ≡ false
-      seen_on f z lt = ⊎_elim (λ l. out z l) (λ g. let e : z ≡ y = omega arith in rw e (seen_misfit n dist k path a y (rw q f))) (lt_or_ge z y)
+      pub looks_none : r ≡ None → look_ahead n dist k path a ≡ false
+      looks_none e = look_is n dist k path a false le (any_none _ n (λ z lt. unseen_till n z (rw e at l.first) lt))
 
-      pub looks_no : n ≤ y → Looks (look_ahead n dist k path a) n dist k (path ++ (a ∷ [])) 0
-      looks_no past = looks_none _ n dist k _ (sym (look_is n dist k path len a q false le (any_none _ n (λ z l. out z (omega arith)))))
+      module _ (y : ℕ) (e : r ≡ Some y) where
+        it : IsFirstAt n dist a w l.start y
+        it = rw e at l.first
 
--- one more is passed by the scan
-pub passed_more : (n : ℕ) (dist : List ℕ) (a w from y : ℕ) → ((z : ℕ) → from ≤ z → z < y → distance dist n a z ≡ w → ⊥) → (distance dist n a y ≡ w → ⊥) → (z : ℕ) → from ≤ z → z < y + 1 → distance dist n a z ≡ w → ⊥
-passed_more n dist a w from y out h z ge lt e =
-    ⊎_elim (λ l. out z ge l e) (λ g. let q : z ≡ y = omega arith in h (subst (λ (x : ℕ). distance dist n a x ≡ w) q e)) (lt_or_ge z y)
+        pub looking_next : (r' : Option ℕ) → fits_before n dist k path (length path) (k / 2 + 1) y ≡ false → FirstAt n dist a w (y + 1) r' → Looking n dist k path a w from r'
+        looking_next r' f g = record {
+          start = y + 1;
+          after = let after : l.start ≤ y = it.after in omega (arith, l.after);
+          unseen = λ z lt. ⊎_elim (λ lt. unseen_till y z it.passed lt) (λ ge. let q : z ≡ y = omega arith in rw q (seen_misfit n dist k path a y f)) (lt_or_ge z y);
+          first = g;
+        }
 
--- words that hold the same path
-
-pub hint_kept : {n : ℕ} {dist : List ℕ} {k from : ℕ} {p p' : List ℕ} → p' ≡ p → Hint n dist k p from → Hint n dist k p' from
-hint_kept {n} {dist} {k} {from} e h = subst (λ (x : List ℕ). Hint n dist k x from) (sym e) h
-
-pub looks_kept : (may : Test) (n : ℕ) (dist : List ℕ) (k : ℕ) (p p' : List ℕ) (a r : ℕ) → p' ≡ p → Looks (follows may p' a) n dist k (p' ++ (a ∷ [])) r → Looks (follows may p a) n dist k (p ++ (a ∷ [])) r
-looks_kept may n dist k p p' a r e h = subst (λ (x : List ℕ). Looks (follows may x a) n dist k (x ++ (a ∷ [])) r) e h
-
-pub hint_grown : (n : ℕ) (dist : List ℕ) (k left : ℕ) (w₀ w : List ℕ) (a x from : ℕ) → left < k → (left ≡ 0 → ⊥) → k ≤ ring_most → PathIn n w₀ (k - left) → take (k - left) w ≡ take (k - left) w₀ → length w ≡ length w₀ → x ≡ a
-    → Hint n dist k (take (k - left) w₀ ++ (x ∷ [])) from → Hint n dist k (take (k - (left - 1)) (set w (k - left) a)) from
-hint_grown n dist k left w₀ w a x from lt nz most p e l ex h =
-    rw (grown_path n k left w₀ w a lt nz most p e l, ← ex) h
+        pub looks_at : fits_before n dist k path (length path) (k / 2 + 1) y ≡ true → (look_ahead n dist k path a ≡ true) × Hint n dist k (path ++ (a ∷ [])) y
+        looks_at f =
+            let high : get_or path 0 0 < y = omega (arith, it.after, l.after, h.above) in
+            let hit : seen n dist k path a y ≡ true = seen_hit n dist k path a y high (it.there ∙ ew) f in
+            (look_is n dist k path a true le (any_found _ n y it.within hit), hint_next n dist k path a some from y h (omega (arith, it.after, l.after)) (omega (arith, it.within)) (λ z lt. unseen_till y z it.passed lt))

@@ -12,19 +12,21 @@ use Rattle.graph.specs.Counts.{lengths_of}
 use Rattle.graph.specs.Listing.{RingListing}
 use Rattle.graph.proofs.Listings.{ring_listing_unique}
 use Rattle.network.specs.declared.Answer.{Answer}
-use Rattle.network.specs.Network.{Bonded}
+use Rattle.network.specs.Network.{Bonded, IsNetwork}
 use Rattle.network.specs.Verdict.{check, refusal, accepted}
 use Rattle.ring.specs.Maxima.{ring_least, ring_most, allowance_most}
-use Rattle.census.specs.declared.Census.{Census}
+use Rattle.census.specs.Told.{Census, no_census}
 use Rattle.search.specs.declared.grow.Tally.{Tally}
-use Rattle.census.specs.Census.{plain, encode, limit_of, before_search, after_count, after_list, counts_of, census_with, census_of, no_census, settled, Searched, CensusOutcome, CountOutcome, ListOutcome}
+use Rattle.census.specs.Census.{plain, encode, limit_of, before_search, after_count, after_list, counts_of, census_with, census_of, settled, Searched, CensusOutcome, CountOutcome, ListOutcome}
 use Rattle.census.specs.Prepared.{Prepared, Passed}
 use Rattle.paths.specs.Search.{rings_up_to}
 use Rattle.paths.specs.Turn.{may_follow}
-use Rattle.search.specs.State.{Net, Tallied}
+use Rattle.search.specs.Tallied.{Tallied}
 use Rattle.census.proofs.Passed.{reached_exactly}
 use Rattle.paths.proofs.Listed.{right_as_far, the_listing}
 use Rattle.paths.proofs.Counts.{counts_all, lengths_all}
+use Rattle.notes.specs.declared.Found.{Found}
+use Rattle.notes.specs.Noting.{state, note_all, none}
 use Rattle.notes.proofs.Noted.{too_many, not_many, total, needed, holds}
 use Rattle.census.proofs.Settled.{code, unrefused, reached, told_count}
 
@@ -73,13 +75,13 @@ module _ (n : ℕ) (t : List ℕ) (limit allowance : ℕ) (d d' : List ℕ) (p :
       rings : List (List ℕ)
       rings = rings_up_to may_follow n t d' (used + 1 - ring_least)
 
-      pub net : Net n t d' used
-      net = record { network = passed.network; square = (P.filled z).full; least = omega (arith, passed.least); most = omega (arith, passed.most) }
+      pub reaches : (ring_least ≤ used) × (used ≤ ring_most)
+      reaches = (omega (arith, passed.least), omega (arith, passed.most))
 
       lists : RingListing (Bonded t) (limit_of limit) rings
       unfolding rings
       lists = subst (λ m. RingListing (Bonded t) m rings) u
-          (the_listing n t d' passed.network (right_as_far (ring_most / 2) n t d' (omega arith) (P.filled z)) used net.most net.least)
+          (the_listing n t d' passed.network (right_as_far (ring_most / 2) n t d' (omega arith) (P.filled z)) used reaches.1 reaches.0)
 
       out_searched : (after_the_search : List (List ℕ) → Answer) (c : Census) → c ≡ settled n limit (after_the_search rings) rings → CensusOutcome n t limit allowance after_the_search d d' c
       out_searched after_the_search c e = record {
@@ -87,27 +89,24 @@ module _ (n : ℕ) (t : List ℕ) (limit allowance : ℕ) (d d' : List ℕ) (p :
         searched = λ _. record { filled = P.filled z; rings = rings; listing = lists; says = e };
       }
 
-      module _ (s s' : List ℕ) (y : Tally) (T : Tallied n t d' (used + 1 - ring_least) allowance s y s') where
-        many : y.found.over ≡ true → allowance < length rings
-        unfolding rings
-        many o = too_many length plain allowance rings s y.found s' T.result o
-
-        module _ (o : y.found.over ≡ false) where
+      -- the rings are noted, from no ring on
+      module _ (s s' : List ℕ) (r : Found) (R : state r s' ≡ note_all length plain allowance (rings_up_to may_follow n t d' (used + 1 - ring_least)) (state none s)) where
+        module _ (y : Tally) (T : Tallied n t d' (used + 1 - ring_least) r y) (o : r.over ≡ false) where
           few : length rings ≤ allowance
           unfolding rings
-          few = not_many length plain allowance rings s y.found s' T.result o
+          few = not_many length plain allowance rings s r s' R o
 
-          all : y.found.rings ≡ length rings
+          all : r.rings ≡ length rings
           unfolding rings
-          all = total length plain allowance rings s y.found s' T.result o
+          all = total length plain allowance rings s r s' R o
 
-          words : y.found.at ≡ length (encode rings)
+          words : r.at ≡ length (encode rings)
           unfolding rings
-          words = needed length plain allowance rings s y.found s' T.result o
+          words = needed length plain allowance rings s r s' R o
 
           counts : y.counts ≡ counts_of rings
           unfolding rings
-          counts = T.each o ∙ counts_all n t d' (used + 1 - ring_least) (omega (arith, net.most))
+          counts = T.each o ∙ counts_all n t d' (used + 1 - ring_least) (omega (arith, reaches.1))
 
           lengths : y.lengths ≡ lengths_of rings
           unfolding rings
@@ -116,22 +115,23 @@ module _ (n : ℕ) (t : List ℕ) (limit allowance : ℕ) (d d' : List ℕ) (p :
           pub small : y.lengths ≤ ring_most * allowance_most
           small = omega (arith, T.bounded, all, few, passed.bounded)
 
-          told : (c : Census) → c ≡ census_with n used y.counts y.found.rings y.lengths y.found.at → c ≡ census_of n limit rings
-          told c e = e ∙ same_census n used (limit_of limit) y.counts (counts_of rings) y.found.rings (length rings) y.lengths (lengths_of rings) y.found.at (length (encode rings)) u counts all lengths words
+          told : (c : Census) → c ≡ census_with n used y.counts r.rings y.lengths r.at → c ≡ census_of n limit rings
+          told c e = e ∙ same_census n used (limit_of limit) y.counts (counts_of rings) r.rings (length rings) y.lengths (lengths_of rings) r.at (length (encode rings)) u counts all lengths words
 
-          pub count_0 : (c : Census) → c ≡ census_with n used y.counts y.found.rings y.lengths y.found.at → CountOutcome n t limit allowance d d' c
+          pub count_0 : (c : Census) → c ≡ census_with n used y.counts r.rings y.lengths r.at → CountOutcome n t limit allowance d d' c
           count_0 c e = out_searched (after_count allowance) c (settled_count n limit allowance rings c few (told c e))
 
-        pub count_12 : (a : Answer) (c : Census) → y.found.over ≡ true → a ≡ refusal 12 → c ≡ no_census a → CountOutcome n t limit allowance d d' c
-        count_12 a c o h e = out_searched (after_count allowance) c (settled_12 n limit allowance rings c a (many o) h e)
+        pub count_12 : (a : Answer) (c : Census) → r.over ≡ true → a ≡ refusal 12 → c ≡ no_census a → CountOutcome n t limit allowance d d' c
+        unfolding rings
+        count_12 a c o h e = out_searched (after_count allowance) c (settled_12 n limit allowance rings c a (too_many length plain allowance rings s r s' R o) h e)
 
-      -- a second search writes the rings where they have room
-      pub rewritten : (l l' : List ℕ) (y : Tally) → Tallied n t d' (used + 1 - ring_least) allowance l y l' → (xs : List (List ℕ)) → RingListing (Bonded t) (limit_of limit) xs → length xs ≤ allowance → length (encode xs) ≤ length l → l' ≡ sets l 0 (encode xs)
-      unfolding rings
-      rewritten l l' y T xs h few room =
-          let same : rings ≡ xs = ring_listing_unique (Bonded t) (limit_of limit) rings xs lists h in
-          (holds length plain allowance rings l y.found l' T.result (subst (λ (x : List (List ℕ)). length x ≤ allowance) (sym same) few) (subst (λ (x : List (List ℕ)). length (encode x) ≤ length l) (sym same) room)).1
-          ∙ ap (λ (x : List (List ℕ)). sets l 0 (encode x)) same
+        -- a second search writes the rings where they have room
+        pub rewritten : (xs : List (List ℕ)) → RingListing (Bonded t) (limit_of limit) xs → length xs ≤ allowance → length (encode xs) ≤ length s → s' ≡ sets s 0 (encode xs)
+        unfolding rings
+        rewritten xs h few room =
+            let same : rings ≡ xs = ring_listing_unique (Bonded t) (limit_of limit) rings xs lists h in
+            (holds length plain allowance rings s r s' R (subst (λ (x : List (List ℕ)). length x ≤ allowance) (sym same) few) (subst (λ (x : List (List ℕ)). length (encode x) ≤ length s) (sym same) room)).1
+            ∙ ap (λ (x : List (List ℕ)). sets s 0 (encode x)) same
 
 -- listing, after counting
 module _ (n : ℕ) (t : List ℕ) (limit allowance : ℕ) (d d' : List ℕ) (c : Census) (C : CountOutcome n t limit allowance d d' c) where
@@ -159,8 +159,14 @@ module _ (n : ℕ) (t : List ℕ) (limit allowance : ℕ) (d d' : List ℕ) (c :
     used : c.limit ≡ limit_of limit
     used = ap (λ (x : Census). x.limit) its.0
 
-    pub again_net : Net n t d' c.limit
-    again_net = net n t limit allowance d d' (before_search n t limit allowance d) prepared (unrefused C z) c.limit used
+    pub again_network : IsNetwork n t
+    again_network = (passed n t limit allowance d d' (before_search n t limit allowance d) prepared (unrefused C z)).network
+
+    pub again_square : length d' ≡ n * n
+    again_square = counted.filled.full
+
+    pub again_reaches : (ring_least ≤ c.limit) × (c.limit ≤ ring_most)
+    again_reaches = reaches n t limit allowance d d' (before_search n t limit allowance d) prepared (unrefused C z) c.limit used
 
     pub again_small : allowance ≤ allowance_most
     again_small = (passed n t limit allowance d d' (before_search n t limit allowance d) prepared (unrefused C z)).bounded
@@ -178,14 +184,14 @@ module _ (n : ℕ) (t : List ℕ) (limit allowance : ℕ) (d d' : List ℕ) (c :
       written = λ f. absurd (omega (arith, f, ap code k, ap number h));
     }
 
-    pub list_0 : (l l' : List ℕ) (y : Tally) → c.words ≤ length l → Tallied n t d' (c.limit + 1 - ring_least) allowance l y l' → ListOutcome n t limit allowance d d' l l' c
-    list_0 l l' y m T =
+    pub list_0 : (l l' w : List ℕ) (r : Found) → c.words ≤ length l → state r w ≡ note_all length plain allowance (rings_up_to may_follow n t d' (c.limit + 1 - ring_least)) (state none l) → l' ≡ w → ListOutcome n t limit allowance d d' l l' c
+    list_0 l l' w r m R e =
         let room : length (encode counted.rings) ≤ length l = omega (arith, m, ap (λ (x : Census). x.words) its.0) in
-        let all = rewritten n t limit allowance d d' (before_search n t limit allowance d) prepared (unrefused C z) c.limit used l l' y T in
+        let all = rewritten n t limit allowance d d' (before_search n t limit allowance d) prepared (unrefused C z) c.limit used l w r R in
         record {
           census = out_listed l c (settled_list n limit allowance counted.rings c (length l) its.1 room its.0);
           kept = λ f. absurd (f z);
           written = λ _ xs h.
               let same : counted.rings ≡ xs = ring_listing_unique (Bonded t) (limit_of limit) counted.rings xs counted.listing h in
-              all counted.rings counted.listing its.1 room ∙ ap (λ (x : List (List ℕ)). sets l 0 (encode x)) same;
+              e ∙ all counted.rings counted.listing its.1 room ∙ ap (λ (x : List (List ℕ)). sets l 0 (encode x)) same;
         }

@@ -1,55 +1,62 @@
--- A step of the search notes the rings that it finds: a whole path, a turn of a loop, a length.
-use mathlib.Core.Path.{◌≡◌}
-use mathlib.Core.Bool.{true, false}
-use mathlib.Core.List.{List, [], ◌∷◌}
-use Prim.Native.Nat.{ℕ, ◌+◌, ◌-◌, ◌*◌, ◌≤◌}
+-- A step of the search notes the rings that it finds: a turn of a loop, a length.
+use Rattle.std.proofs.Common.{◌≡◌, refl, sym, ◌∙◌, ap, true, false, List, [], ◌++◌, ℕ, ◌+◌, ◌-◌, ◌*◌, ◌≤◌, length, set, arith, add-one}
 use native.Mathlib.Nat.{mul-le-mul_right}
-use native.Mathlib.Numerals.{add-one}
-use native.Mathlib.Omega.{arith}
-use lib.ListN.{length, set}
 use Rattle.ring.specs.Maxima.{ring_least, ring_most}
 use Rattle.census.specs.Census.{plain}
-use Rattle.paths.specs.Search.{Tests, gather_below, is_ring, ended, rings_of, counts_up_to, lengths_up_to}
-use Rattle.notes.specs.Noting.{State, note_all}
-use Rattle.notes.proofs.Notes.{all_append}
-use Rattle.notes.proofs.Noted.{count, over_back}
+use Rattle.paths.specs.Search.{Tests, gather_below, rings_of, rings_up_to, counts_up_to, lengths_up_to}
+use Rattle.notes.specs.Noting.{State, state, note_all, none}
+use Rattle.notes.proofs.Notes.{all_append, all_over}
+use Rattle.notes.proofs.Noted.{count, over_back, rings_grew}
+use Rattle.search.specs.declared.state.Notes.{Notes}
+use Rattle.search.specs.State.{HasNoted}
 
-pub ended_yes : (a : ℕ) (n : ℕ) (dist : List ℕ) (k : ℕ) (path : List ℕ) (s s' : State) → is_ring n dist k path ≡ true → s' ≡ note_all length plain a (path ∷ []) s → s' ≡ note_all length plain a (ended n dist k path) s
-unfolding ended
-ended_yes a n dist k path s s' h e = rw h e
+pub noted_none : (b : Notes) → HasNoted [] b b
+unfolding note_all
+noted_none b = record { result = refl; allowance = refl }
 
-pub ended_no : (a : ℕ) (n : ℕ) (dist : List ℕ) (k : ℕ) (path : List ℕ) (s : State) → is_ring n dist k path ≡ false → s ≡ note_all length plain a (ended n dist k path) s
-unfolding note_all ended
-ended_no a n dist k path s h = rw h
+pub noted_over : (xs : List (List ℕ)) (b : Notes) → b.found.over ≡ true → HasNoted xs b b
+noted_over xs b h = record { result = all_over length plain _ _ _ _ h; allowance = refl }
+
+pub noted_more : (xs ys : List (List ℕ)) (b c d : Notes) → HasNoted xs b c → HasNoted ys c d → HasNoted (xs ++ ys) b d
+noted_more xs ys b c d h g = record {
+  result = rw (all_append, ← h.result, ← h.allowance) g.result;
+  allowance = g.allowance ∙ h.allowance;
+}
+
+-- from no ring on
+pub noted_first : (xs : List (List ℕ)) (a : ℕ) (b c : Notes) → b.allowance ≡ a → b.found ≡ none → HasNoted xs b c → state c.found c.list.now ≡ note_all length plain a xs (state none b.list.now)
+noted_first xs a b c ea ef h = rw (← ea, ← ef) h.result
 
 -- a turn of a loop that notes what each number gives
-pub turn : (a : ℕ) (f : ℕ → List (List ℕ)) (i : ℕ) (s₀ s s' : State) → s ≡ note_all length plain a (gather_below i f) s₀ → s' ≡ note_all length plain a (f i) s → s' ≡ note_all length plain a (gather_below (i + 1) f) s₀
+pub turn : (f : ℕ → List (List ℕ)) (i : ℕ) (b c d : Notes) → HasNoted (gather_below i f) b c → HasNoted (f i) c d → HasNoted (gather_below (i + 1) f) b d
 unfolding gather_below
-turn a f i s₀ s s' inv e = rw (add-one, all_append, ← inv) e
+turn f i b c d h g = rw add-one (noted_more _ _ b c d h g)
 
-pub turned : (a : ℕ) (f : ℕ → List (List ℕ)) (i n : ℕ) (s₀ s : State) → i ≤ n → n ≤ i → s ≡ note_all length plain a (gather_below i f) s₀ → s ≡ note_all length plain a (gather_below n f) s₀
-turned a f i n s₀ s le ge h = let e : n ≡ i = omega arith in rw e h
+-- a turn of the loop over the lengths, of which the m least were done before
+module _ (may : Tests) (n : ℕ) (table dist : List ℕ) (m k : ℕ) (ek : k ≡ m + ring_least) (c d : Notes) (g : HasNoted (rings_of may n table dist k) c d) where
+  pub turn_rings : (b : Notes) → HasNoted (rings_up_to may n table dist m) b c → HasNoted (rings_up_to may n table dist (m + 1)) b d
+  unfolding rings_up_to
+  turn_rings b h = turn _ m b c d h (rw ek at g)
 
--- a turn of the loop over the lengths: its count is filled in
-pub counts_turn : (may : Tests) (n : ℕ) (table dist : List ℕ) (a j : ℕ) (s s' : State) (counts : List ℕ) → s' ≡ note_all length plain a (rings_of may n table dist (j + ring_least)) s → (s.found.over ≡ false → counts ≡ counts_up_to may n table dist j)
-    → s'.found.over ≡ false → set counts (j + ring_least) (s'.found.rings - s.found.rings) ≡ counts_up_to may n table dist (j + 1)
-unfolding counts_up_to
-counts_turn may n table dist a j s s' counts e inv o =
-    let xs = rings_of may n table dist (j + ring_least) in
-    let o' : (note_all length plain a xs s).found.over ≡ false = rw e at o in
-    let d : s'.found.rings - s.found.rings ≡ length xs = rw e (let q = count length plain a xs s o' in omega arith) in
-    rw (add-one j, d, inv (over_back length plain a xs s o'))
+  pub turn_more : c.found.rings ≤ d.found.rings
+  turn_more = rings_grew length plain c.allowance _ (state c.found c.list.now) (state d.found d.list.now) g.result
 
--- and its part of the sum of the lengths
-pub lengths_turn : (may : Tests) (n : ℕ) (table dist : List ℕ) (a j : ℕ) (s s' : State) (lengths : ℕ) → s' ≡ note_all length plain a (rings_of may n table dist (j + ring_least)) s → (s.found.over ≡ false → lengths ≡ lengths_up_to may n table dist j)
-    → s'.found.over ≡ false → lengths + (j + ring_least) * (s'.found.rings - s.found.rings) ≡ lengths_up_to may n table dist (j + 1)
-unfolding lengths_up_to
-lengths_turn may n table dist a j s s' lengths e inv o =
-    let xs = rings_of may n table dist (j + ring_least) in
-    let o' : (note_all length plain a xs s).found.over ≡ false = rw e at o in
-    let d : s'.found.rings - s.found.rings ≡ length xs = rw e (let q = count length plain a xs s o' in omega arith) in
-    rw (add-one j, d, inv (over_back length plain a xs s o'))
+  more : d.found.over ≡ false → (c.found.over ≡ false) × (d.found.rings - c.found.rings ≡ length (rings_of may n table dist k))
+  more o =
+      let o' = sym (ap (λ (s : State). s.found.over) g.result) ∙ o in
+      let r = ap (λ (s : State). s.found.rings) g.result in
+      (over_back length plain c.allowance (rings_of may n table dist k) (state c.found c.list.now) o', omega (arith, r, count length plain c.allowance (rings_of may n table dist k) (state c.found c.list.now) o'))
 
--- which stays at most a longest ring's length for each ring
-pub lengths_bounded : (k lengths rings rings' : ℕ) → k ≤ ring_most → rings ≤ rings' → lengths ≤ ring_most * rings → lengths + k * (rings' - rings) ≤ ring_most * rings'
-lengths_bounded k lengths rings rings' h l b = omega (arith, mul-le-mul_right (rings' - rings) h)
+  -- its count is filled in
+  pub turn_counts : (counts : List ℕ) → (c.found.over ≡ false → counts ≡ counts_up_to may n table dist m) → d.found.over ≡ false → set counts k (d.found.rings - c.found.rings) ≡ counts_up_to may n table dist (m + 1)
+  unfolding counts_up_to
+  turn_counts counts inv o = let q = more o in rw (add-one m, q.1, inv q.0, ek)
+
+  -- and its part of the sum of the lengths
+  pub turn_lengths : (lengths : ℕ) → (c.found.over ≡ false → lengths ≡ lengths_up_to may n table dist m) → d.found.over ≡ false → lengths + k * (d.found.rings - c.found.rings) ≡ lengths_up_to may n table dist (m + 1)
+  unfolding lengths_up_to
+  turn_lengths lengths inv o = let q = more o in rw (add-one m, q.1, inv q.0, ek)
+
+  -- which stays at most a longest ring's length for each ring
+  pub turn_bounded : (lengths : ℕ) → k ≤ ring_most → lengths ≤ ring_most * c.found.rings → lengths + k * (d.found.rings - c.found.rings) ≤ ring_most * d.found.rings
+  turn_bounded lengths l h = omega (arith, turn_more, mul-le-mul_right (d.found.rings - c.found.rings) l)

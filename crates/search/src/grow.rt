@@ -1,169 +1,87 @@
 // The search: a path grows by one atom after another, in the order of the list.
-ghost use Rattle.std.specs.Prelude.{◌≡◌, ◌+◌, ◌-◌, ◌*◌, ◌<◌, ◌≤◌, length, take};
-ghost use Rattle.network.specs.Maxima.{atoms_most, places};
-ghost use Rattle.network.specs.Network.{word};
-ghost use Rattle.ring.specs.Maxima.{ring_least};
-ghost use Rattle.paths.specs.Search.{ended, extend, rings_of};
+ghost use Rattle.std.specs.Prelude.{◌≡◌, ◌+◌, ◌-◌, ◌≤◌};
+ghost use Rattle.ring.specs.Maxima.{ring_least, ring_most};
+ghost use Rattle.paths.specs.Search.{rings_of, rings_up_to};
 ghost use Rattle.paths.specs.Turn.{may_follow, Hint};
-ghost use Rattle.notes.specs.Noting.{Fits};
-ghost use Rattle.search.specs.State.{Given, Net, Grows, Notes, Grew, Tallied};
+ghost use Rattle.search.specs.Given.{Given};
+ghost use Rattle.search.specs.State.{HasNoted, rings_on};
+ghost use Rattle.search.specs.Tallied.{Tallied};
 
-use crate::{pairs, turn};
+use crate::net::Net;
+use crate::path::Path;
+use crate::state::{Notes, Search};
 use network::Network;
-use notes::Found;
 use ring::Ring;
 
-// What is found, with a count for each length, and the lengths of the rings added up.
+// How many rings are found of each length, and their lengths added up.
 #[derive(Drop)]
 pub struct Tally {
     pub counts: [u32; Ring::LENGTH + 1],
     pub lengths: usize,
-    pub found: Found,
 }
 
 // Every ring as far as the limit, shorter ones first.
-pub fn each_length(
-    n: usize,
-    table: &[u16],
-    dist: &[u8],
-    limit: usize,
-    allowance: u32,
-    list: &mut [u16],
-) -> Tally
-    requires { Net n table.now dist.now limit }
-    ensures { Tallied n table.now dist.now (limit + 1 - ring_least) allowance list.old result list.new }
+pub fn each_length(net: Net, limit: usize, notes: &mut Notes) -> Tally
+    requires { (ring_least ≤ limit) × (limit ≤ ring_most) }
+    ensures noted { let m = net.entry in HasNoted (rings_up_to may_follow m.n m.table.now m.dist.now (limit + 1 - ring_least)) notes.old notes.new }
+    ensures same_list { notes.new.list.ghost_name ≡ notes.old.list.ghost_name }
+    ensures tallied { let m = net.entry in Tallied m.n m.table.now m.dist.now (limit + 1 - ring_least) notes.new.found result }
 {
-    let mut found = Found {
-        rings: 0,
-        at: 0,
-        over: false,
-    };
     let mut counts = [0u32; Ring::LENGTH + 1];
     let mut lengths: usize = 0;
-    let many = limit + 1 - Ring::LEAST;
-    let mut j: usize = 0;
-    while j < many {
-        let k = j + Ring::LEAST;
-        let next = from_each(n, table, dist, k, allowance, found, list);
-        let more = next.rings - found.rings;
+    for k in Ring::LEAST..=limit {
+        let before = notes.found.rings;
+        from_each(net, k, notes);
+        let more = notes.found.rings - before;
         counts[k] = more;
         lengths += k * more as usize;
-        found = next;
-        j += 1;
     }
-    Tally {
-        counts,
-        lengths,
-        found,
-    }
+    Tally { counts, lengths }
 }
 
 // Every ring of k atoms, first atoms ascending.
-fn from_each(
-    n: usize,
-    table: &[u16],
-    dist: &[u8],
-    k: usize,
-    allowance: u32,
-    found: Found,
-    list: &mut [u16],
-) -> Found
-    requires net { Net n table.now dist.now k }
-    requires fits { Fits found }
-    ensures { Notes allowance (rings_of may_follow n table.now dist.now k) found list.old result list.new }
+fn from_each(net: Net, k: usize, notes: &mut Notes)
+    requires { (ring_least ≤ k) × (k ≤ ring_most) }
+    ensures noted { let m = net.entry in HasNoted (rings_of may_follow m.n m.table.now m.dist.now k) notes.old notes.new }
+    ensures same_list { notes.new.list.ghost_name ≡ notes.old.list.ghost_name }
 {
-    let mut path = [0u16; Ring::LENGTH];
-    let mut f = found;
-    let mut a: usize = 0;
-    while a < n {
-        path[0] = a as u16;
-        f = grow(
-            n,
-            table,
-            dist,
-            k,
-            &mut path,
-            k - 1,
-            a + 1,
-            allowance,
-            f,
-            list,
-        );
-        a += 1;
+    for first in 0..net.n {
+        let mut path = Path::of(first as u16);
+        grow(net, k, &mut path, first + 1, notes);
     }
-    f
 }
 
-// Lengthens the path, which lacks `left` atoms of k, by one atom after another until it is whole.
-fn grow(
-    n: usize,
-    table: &[u16],
-    dist: &[u8],
-    k: usize,
-    path: &mut [u16; Ring::LENGTH],
-    left: usize,
-    from: usize,
-    allowance: u32,
-    found: Found,
-    list: &mut [u16],
-) -> Found
-    requires grows { Grows n table.now dist.now k path.old left }
-    requires fits { Fits found × (Hint n dist.now k (take (k - left) path.old) from) }
-    ensures { Grew allowance (extend (may_follow n dist.now k) n table.now dist.now k left (take (k - left) path.old)) found list.old result list.new (k - left) path.old path.new }
+// Every ring that begins with the path, which is lengthened by one atom after another until it is whole.
+// Kept: the path beside what stays as it is: as a method of one `&mut Search` that holds both, listing a 7-cube at limit 24 takes 175 ms, and so 145.
+fn grow(net: Net, k: usize, path: &mut Path, from: usize, notes: &mut Notes)
+    requires given { Given net.n k path.old }
+    requires hint { Hint net.n net.dist.now k path.old from }
+    ensures kept { path.new ≡ path.old }
+    ensures noted { HasNoted (rings_on net.entry k path.old) notes.old notes.new }
+    ensures same_list { notes.new.list.ghost_name ≡ notes.old.list.ghost_name }
 {
-    if found.over {
-        return found;
+    if notes.found.over {
+        return;
     }
-    if left == 0 {
-        return complete(n, dist, k, path, allowance, found, list);
-    }
-    let len = k - left;
-    let last = pairs::atom_at(n, path, len, len - 1);
-    let mut f = found;
-    let mut i: usize = 0;
-    while i < Network::PLACES {
-        let a = place_at(n, table, last, i);
-        let w = pairs::wide(a);
-        if n <= w {
-            return f;
+    let len = path.len();
+    if len == k {
+        let search = Search { net, k, path };
+        if search.is_ring() {
+            notes.note(path.words());
         }
-        let next = turn::may_follow(n, dist, k, path, len, w, from);
-        if next != 0 {
-            path[len] = a;
-            f = grow(n, table, dist, k, path, left - 1, next, allowance, f, list);
+        return;
+    }
+    let last = path.at(len - 1);
+    for place in 0..Network::PLACES {
+        let atom = net.word(last, place);
+        if net.n <= atom as usize {
+            return;
         }
-        i += 1;
+        let search = Search { net, k, path };
+        if let Some(next) = search.may_follow(atom as usize, from) {
+            path.push(atom);
+            grow(net, k, path, next, notes);
+            path.cut(len);
+        }
     }
-    f
-}
-
-// A whole path is noted if it is a ring.
-fn complete(
-    n: usize,
-    dist: &[u8],
-    k: usize,
-    path: &[u16; Ring::LENGTH],
-    allowance: u32,
-    found: Found,
-    list: &mut [u16],
-) -> Found
-    requires given { Given n dist.now k path.now k }
-    requires least { (ring_least ≤ k) × Fits found }
-    ensures { Notes allowance (ended n dist.now k (take k path.now)) found list.old result list.new }
-{
-    if pairs::is_ring(n, dist, k, path) {
-        let words: &[u16] = path;
-        return notes::note(&words[..k], allowance, found, list);
-    }
-    found
-}
-
-// What stands at place i of an atom's row.
-fn place_at(n: usize, table: &[u16], atom: usize, i: usize) -> u16
-    requires whole { (length table.now ≡ places * n) × (n ≤ atoms_most) }
-    requires inside { (atom < n) × (i < places) }
-    ensures { result ≡ word table.now atom i }
-{
-    let at = atom * Network::PLACES + i;
-    table[at]
 }

@@ -14,31 +14,17 @@ pub const WORDS: usize = Network::ATOMS * Network::PLACES;
 
 // The paper's Fig. 1, a to g as 0 to 6: each row's eight places, a stroke for a free one.
 fn main(rt: HostRuntime) -> io::Result<()> {
-    let mut figure = [Network::FREE; 56];
-    fill(
-        &mut figure,
-        b"14------023-----15------156-----05------2346----35------",
-    );
+    let figure = b"14------023-----15------156-----05------2346----35------".map(word);
     tables::run(&rt, &figure)?;
     readings::run(&rt)?;
     writings::run(&rt, &figure)
 }
 
-// The table so written.
-fn fill(table: &mut [u16], letters: &[u8]) {
-    let mut i = 0;
-    while i < table.len() {
-        if letters.len() <= i {
-            return;
-        }
-        table[i] = word(letters[i]);
-        i += 1;
-    }
-}
-
-fn word(letter: u8) -> u16 {
+// The word so written.
+pub fn word(letter: u8) -> u16 {
     if letter == b'-' {
-        return Network::FREE;
+        Network::FREE
+    } else {
+        u16::from(letter % b'0')
     }
-    (letter % b'0') as u16
 }

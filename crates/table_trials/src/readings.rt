@@ -1,7 +1,10 @@
 // Reading a network file: refusals 19 to 27, from both sides of their borders.
+ghost use Rattle.std.specs.Prelude.{◌≤◌};
+
 use crate::WORDS;
+use bnw::{BOND, BONDS, BONDS_AT, HEAD};
 use network::Network;
-use say::results;
+use say::{Shown, ShownBytes, ShownWords};
 use std::io;
 
 pub fn run(rt: &impl Print) -> io::Result<()> {
@@ -10,136 +13,115 @@ pub fn run(rt: &impl Print) -> io::Result<()> {
     bonds(rt)?;
     lengths(rt)?;
     orders(rt)?;
-    ninth_first(rt)?;
-    ninth_second(rt)
+    ninths(rt)
 }
 
 // 19 to 21: a short file, marks and versions.
 fn heads(rt: &impl Print) -> io::Result<()> {
     read(rt, b"BNW\x01\x00\x01\x00\x00", Network::PLACES)?;
-    head(rt, b'W', 1, 1, 0, Network::PLACES)?;
-    head(rt, b'X', 1, 1, 0, Network::PLACES)?;
-    head(rt, b'W', 0, 1, 0, Network::PLACES)?;
-    head(rt, b'W', 2, 1, 0, Network::PLACES)?;
-    head(rt, b'W', 257, 1, 0, Network::PLACES)
+    for (letter, version) in [(b'W', 1), (b'X', 1), (b'W', 0), (b'W', 2), (b'W', 257)] {
+        head(rt, letter, version, 1, 0, Network::PLACES)?;
+    }
+    Ok(())
 }
 
 // 22: the number of atoms, with its sign.
 fn atoms(rt: &impl Print) -> io::Result<()> {
-    head(rt, b'W', 1, 0, 0, WORDS)?;
-    head(rt, b'W', 1, Network::ATOMS, 0, WORDS)?;
-    head(rt, b'W', 1, Network::ATOMS + 1, 0, WORDS)?;
-    head(rt, b'W', 1, 0xffff, 0, WORDS)?;
-    head(rt, b'W', 1, 0x8000, 0, WORDS)
+    let most = Network::ATOMS as u16;
+    for atoms in [0, most, most + 1, 0xffff, 0x8000] {
+        head(rt, b'W', 1, atoms, 0, WORDS)?;
+    }
+    Ok(())
 }
 
 // 23: the number of bonds, with its sign. The most bonds are a right number, and missing.
 fn bonds(rt: &impl Print) -> io::Result<()> {
-    head(rt, b'W', 1, 2, 0xffff, WORDS)?;
-    head(rt, b'W', 1, 2, 0x8000, WORDS)?;
-    head(rt, b'W', 1, 2, bnw::BONDS, WORDS)?;
-    head(rt, b'W', 1, 2, bnw::BONDS + 1, WORDS)
+    let most = BONDS as u16;
+    for bonds in [0xffff, 0x8000, most, most + 1] {
+        head(rt, b'W', 1, 2, bonds, WORDS)?;
+    }
+    Ok(())
 }
 
 // A file that ends after its counts, by the mark's last letter, its version and its counts.
+// Kept: that the room is at most the greatest table's stands in three contracts, from the case to its call; a type of rooms would be no plainer.
 fn head(
     rt: &impl Print,
     letter: u8,
-    version: usize,
-    atoms: usize,
-    bonds: usize,
+    version: u16,
+    atoms: u16,
+    bonds: u16,
     room: usize,
-) -> io::Result<()> {
-    let file = [
-        b'B',
-        b'N',
-        letter,
-        low(version),
-        high(version),
-        low(atoms),
-        high(atoms),
-        low(bonds),
-        high(bonds),
-    ];
-    read(rt, &file, room)
-}
-
-fn low(v: usize) -> u8 {
-    (v % 256) as u8
-}
-
-fn high(v: usize) -> u8 {
-    (v / 256 % 256) as u8
+) -> io::Result<()>
+    requires { room ≤ WORDS }
+{
+    let [v, w] = version.to_le_bytes();
+    let [a, b] = atoms.to_le_bytes();
+    let [c, d] = bonds.to_le_bytes();
+    read(rt, &[b'B', b'N', letter, v, w, a, b, c, d], room)
 }
 
 // 24 and 25: the lengths of the file and of the table.
 fn lengths(rt: &impl Print) -> io::Result<()> {
-    read(rt, b"BNW\x01\x00\x02\x00\x01\x00\x00\x00\x01", 16)?;
-    read(rt, b"BNW\x01\x00\x02\x00\x01\x00\x00\x00\x01\x00", 16)?;
-    read(rt, b"BNW\x01\x00\x02\x00\x01\x00\x00\x00\x01\x00\x00", 16)?;
-    read(rt, b"BNW\x01\x00\x02\x00\x01\x00\x00\x00\x01\x00", 15)?;
-    read(rt, b"BNW\x01\x00\x02\x00\x01\x00\x00\x00\x01\x00", 17)
+    let file = b"BNW\x01\x00\x02\x00\x01\x00\x00\x00\x01\x00\x00";
+    for (bytes, words) in [(12, 16), (13, 16), (14, 16), (13, 15), (13, 17)] {
+        read(rt, &file[..bytes], words)?;
+    }
+    Ok(())
 }
 
-// 26: the second of two bonds.
+// 26: the second of two bonds of three atoms.
 fn orders(rt: &impl Print) -> io::Result<()> {
-    two(rt, 0, 1, 0, 2)?;
-    two(rt, 0, 1, 0, 3)?;
-    two(rt, 0, 1, 1, 1)?;
-    two(rt, 0, 1, 2, 1)?;
-    two(rt, 0, 1, 0, 1)?;
-    two(rt, 0, 2, 0, 1)?;
-    two(rt, 1, 2, 0, 2)
+    for [a, b, c, d] in [
+        [0, 1, 0, 2],
+        [0, 1, 0, 3],
+        [0, 1, 1, 1],
+        [0, 1, 2, 1],
+        [0, 1, 0, 1],
+        [0, 2, 0, 1],
+        [1, 2, 0, 2],
+    ] {
+        read(
+            rt,
+            &[b'B', b'N', b'W', 1, 0, 3, 0, 2, 0, a, 0, b, 0, c, 0, d, 0],
+            3 * Network::PLACES,
+        )?;
+    }
+    Ok(())
 }
 
-// Three atoms with the bonds a-b and c-d.
-fn two(rt: &impl Print, a: u8, b: u8, c: u8, d: u8) -> io::Result<()> {
-    read(
+// 27: eight and nine bonds on atom 0, the first of each, and on atom 10, the second of each.
+fn ninths(rt: &impl Print) -> io::Result<()> {
+    ninth(
         rt,
-        &[b'B', b'N', b'W', 1, 0, 3, 0, 2, 0, a, 0, b, 0, c, 0, d, 0],
-        3 * Network::PLACES,
-    )
-}
-
-// 27: eight and nine bonds on atom 0, the first of each.
-fn ninth_first(rt: &impl Print) -> io::Result<()> {
-    read(
-        rt,
-        b"BNW\x01\x00\x0a\x00\x08\x00\x00\x00\x01\x00\x00\x00\x02\x00\x00\x00\x03\x00\x00\x00\x04\x00\x00\x00\x05\x00\x00\x00\x06\x00\x00\x00\x07\x00\x00\x00\x08\x00",
+        *b"BNW\x01\x00\x0a\x00\x09\x00\x00\x00\x01\x00\x00\x00\x02\x00\x00\x00\x03\x00\x00\x00\x04\x00\x00\x00\x05\x00\x00\x00\x06\x00\x00\x00\x07\x00\x00\x00\x08\x00\x00\x00\x09\x00",
         80,
     )?;
-    read(
+    ninth(
         rt,
-        b"BNW\x01\x00\x0a\x00\x09\x00\x00\x00\x01\x00\x00\x00\x02\x00\x00\x00\x03\x00\x00\x00\x04\x00\x00\x00\x05\x00\x00\x00\x06\x00\x00\x00\x07\x00\x00\x00\x08\x00\x00\x00\x09\x00",
-        80,
+        *b"BNW\x01\x00\x0b\x00\x09\x00\x00\x00\x0a\x00\x01\x00\x0a\x00\x02\x00\x0a\x00\x03\x00\x0a\x00\x04\x00\x0a\x00\x05\x00\x0a\x00\x06\x00\x0a\x00\x07\x00\x0a\x00\x08\x00\x0a\x00",
+        88,
     )
 }
 
-// 27: eight and nine bonds on atom 10, the second of each.
-fn ninth_second(rt: &impl Print) -> io::Result<()> {
-    read(
-        rt,
-        b"BNW\x01\x00\x0b\x00\x08\x00\x00\x00\x0a\x00\x01\x00\x0a\x00\x02\x00\x0a\x00\x03\x00\x0a\x00\x04\x00\x0a\x00\x05\x00\x0a\x00\x06\x00\x0a\x00\x07\x00\x0a\x00",
-        88,
-    )?;
-    read(
-        rt,
-        b"BNW\x01\x00\x0b\x00\x09\x00\x00\x00\x0a\x00\x01\x00\x0a\x00\x02\x00\x0a\x00\x03\x00\x0a\x00\x04\x00\x0a\x00\x05\x00\x0a\x00\x06\x00\x0a\x00\x07\x00\x0a\x00\x08\x00\x0a\x00",
-        88,
-    )
+// The first eight bonds of a file of nine, and all.
+fn ninth(rt: &impl Print, mut file: [u8; HEAD + 9 * BOND], room: usize) -> io::Result<()>
+    requires { room ≤ WORDS }
+{
+    for bonds in [8, 9] {
+        file[BONDS_AT] = bonds;
+        read(rt, &file[..HEAD + usize::from(bonds) * BOND], room)?;
+    }
+    Ok(())
 }
 
 // Reads a file into a table, the first `room` words of the greatest, and shows 17 of these.
-fn read(rt: &impl Print, file: &[u8], room: usize) -> io::Result<()> {
-    if WORDS < room {
-        return Ok(());
-    }
+fn read(rt: &impl Print, file: &[u8], room: usize) -> io::Result<()>
+    requires { room ≤ WORDS }
+{
     let mut table = [9u16; WORDS];
-    say::named(rt, b"words", room)?;
-    say::text(rt, b", file")?;
-    say::rows(rt, file, file.len())?;
-    results::reading(rt, bnw_reader::read(file, &mut table[..room]))?;
-    say::text(rt, b"its table")?;
-    say::words(rt, &table, 17)?;
-    say::line(rt)
+    println!(rt; "words {room}, file{}", ShownBytes(file))?;
+    let reading = bnw_reader::read(file, &mut table[..room]);
+    let (shown, _) = table.split_at(17);
+    println!(rt; "read: {}\nits table{}", Shown(&reading), ShownWords(shown))
 }

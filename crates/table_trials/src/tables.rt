@@ -1,10 +1,13 @@
 // The validator and the distance table: refusals 1, 4, 5 and 7 to 11, from both sides of their borders.
-use network::Network;
+ghost use Rattle.std.specs.Prelude.{◌≤◌};
+
+use crate::word;
+use network::{Answer, Network};
+use say::{Shown, ShownWords};
 use std::io;
 
 pub fn run(rt: &impl Print, figure: &[u16]) -> io::Result<()> {
-    let table = [Network::FREE; (Network::ATOMS + 1) * Network::PLACES];
-    sizes(rt, &table)?;
+    sizes(rt)?;
     neighbours(rt)?;
     orders(rt)?;
     distances(rt, figure)?;
@@ -12,103 +15,85 @@ pub fn run(rt: &impl Print, figure: &[u16]) -> io::Result<()> {
 }
 
 // 1 and 4: the number of atoms and the length of the table.
-fn sizes(rt: &impl Print, table: &[u16]) -> io::Result<()> {
+fn sizes(rt: &impl Print) -> io::Result<()> {
     let most = Network::ATOMS;
-    judge(rt, 0, table, 0)?;
-    judge(rt, 1, table, Network::PLACES)?;
-    judge(rt, most, table, most * Network::PLACES)?;
-    judge(rt, most + 1, table, (most + 1) * Network::PLACES)?;
-    judge(rt, 2, table, 15)?;
-    judge(rt, 2, table, 16)?;
-    judge(rt, 2, table, 17)
+    let table = [Network::FREE; (Network::ATOMS + 1) * Network::PLACES];
+    for (n, words) in [
+        (0, 0),
+        (1, Network::PLACES),
+        (most, most * Network::PLACES),
+        (most + 1, (most + 1) * Network::PLACES),
+        (2, 15),
+        (2, 16),
+        (2, 17),
+    ] {
+        judge(rt, n, &table[..words])?;
+    }
+    Ok(())
 }
 
 // 7 and 11: neighbours that are no atoms, do not answer, and answer.
 fn neighbours(rt: &impl Print) -> io::Result<()> {
-    let free = Network::FREE;
-    rows(rt, 2, 1, free, free, free, free, free)?;
-    rows(rt, 2, 1, free, free, 0, free, free)?;
-    rows(rt, 3, free, free, free, free, free, free)?;
-    rows(rt, 3, 3, free, free, free, free, free)?;
-    rows(rt, 3, 2, free, free, free, free, free)?;
-    rows(rt, 3, 2, free, free, free, free, 0)
+    for (n, letters) in [
+        (2, b"1-----------------------"),
+        (2, b"1-------0---------------"),
+        (3, b"------------------------"),
+        (3, b"3-----------------------"),
+        (3, b"2-----------------------"),
+        (3, b"2---------------0-------"),
+    ] {
+        rows(rt, n, letters)?;
+    }
+    Ok(())
 }
 
 // 8 to 10: neighbours after a free place, own atoms, and neighbours out of order, twice and in order.
 fn orders(rt: &impl Print) -> io::Result<()> {
-    let free = Network::FREE;
-    rows(rt, 3, 2, free, 1, free, free, 0)?;
-    rows(rt, 3, 2, free, 0, free, free, 0)?;
-    rows(rt, 3, 2, 0, free, free, free, 0)?;
-    rows(rt, 3, 2, 1, free, free, free, 0)?;
-    rows(rt, 3, 2, 2, free, free, free, 0)?;
-    rows(rt, 3, 1, 2, free, free, free, 0)?;
-    rows(rt, 3, 1, 2, free, 0, free, 0)?;
-    rows(rt, 3, 1, 2, free, 0, 1, 0)
+    for letters in [
+        b"2-1-------------0-------",
+        b"2-0-------------0-------",
+        b"20--------------0-------",
+        b"21--------------0-------",
+        b"22--------------0-------",
+        b"12--------------0-------",
+        b"12------0-------0-------",
+        b"12------01------0-------",
+    ] {
+        rows(rt, 3, letters)?;
+    }
+    Ok(())
 }
 
-// n atoms, at most three, whose rows begin with a, b, c; with d, e; and with f.
-fn rows(
-    rt: &impl Print,
-    n: usize,
-    a: u16,
-    b: u16,
-    c: u16,
-    d: u16,
-    e: u16,
-    f: u16,
-) -> io::Result<()> {
-    if 3 < n {
-        return Ok(());
-    }
-    let mut table = [Network::FREE; 3 * Network::PLACES];
-    table[0] = a;
-    table[1] = b;
-    table[2] = c;
-    table[8] = d;
-    table[9] = e;
-    table[16] = f;
-    say::text(rt, b"rows")?;
-    say::words(rt, &table, 3 * Network::PLACES)?;
-    say::text(rt, b", ")?;
-    judge(rt, n, &table, n * Network::PLACES)
+// The first rows of the table so written as that of n atoms.
+fn rows(rt: &impl Print, n: usize, letters: &[u8; 24]) -> io::Result<()>
+    requires { n ≤ 3 }
+{
+    let table = letters.map(word);
+    print!(rt; "rows{}, ", ShownWords(&table))?;
+    judge(rt, n, &table[..n * Network::PLACES])
 }
 
-// The first `words` words of the table as that of n atoms.
-fn judge(rt: &impl Print, n: usize, table: &[u16], words: usize) -> io::Result<()> {
-    if table.len() < words {
-        return Ok(());
-    }
-    say::named(rt, b"validate atoms", n)?;
-    say::named(rt, b", words", words)?;
-    say::answer(rt, validator::validate(n, &table[..words]))?;
-    say::line(rt)
+fn judge(rt: &impl Print, n: usize, table: &[u16]) -> io::Result<()> {
+    let words = table.len();
+    let answer: Answer = validator::validate(n, table).into();
+    println!(rt; "validate atoms {n}, words {words}: {}", Shown(&answer))
 }
 
 // 5: the distances of Fig. 1 into too few bytes, too many, and as many as they are.
 fn distances(rt: &impl Print, figure: &[u16]) -> io::Result<()> {
-    measure(rt, figure, 48)?;
-    measure(rt, figure, 50)?;
-    measure(rt, figure, 49)
-}
-
-// The distances of seven atoms into the first `bytes` bytes of eight rows.
-fn measure(rt: &impl Print, table: &[u16], bytes: usize) -> io::Result<()> {
-    if 56 < bytes {
-        return Ok(());
+    for bytes in [48, 50, 49] {
+        let mut dist = [9u8; 56];
+        let answer: Answer = distance::distances(7, figure, &mut dist[..bytes]).into();
+        println!(rt; "distances, bytes {bytes}: {}", Shown(&answer))?;
+        say::rows(rt, &dist, 7)?;
     }
-    let mut dist = [9u8; 56];
-    say::named(rt, b"distances, bytes", bytes)?;
-    say::answer(rt, distance::distances(7, table, &mut dist[..bytes]))?;
-    say::line(rt)?;
-    say::rows(rt, &dist, 7)
+    Ok(())
 }
 
 // Two atoms apart have no path.
 fn apart(rt: &impl Print) -> io::Result<()> {
-    let table = [Network::FREE; 16];
     let mut dist = [9u8; 4];
-    distance::distances(2, &table, &mut dist);
-    say::text(rt, b"distances, two atoms apart\n")?;
+    let _ = distance::distances(2, &[Network::FREE; 16], &mut dist);
+    println!(rt; "distances, two atoms apart")?;
     say::rows(rt, &dist, 2)
 }

@@ -1,13 +1,7 @@
 -- How long the texts are at most: in the line of a ring, whose length has at most two digits and whose atoms have at most three, it is
 -- five bytes for each word of the list.
-use mathlib.Core.Path.{refl}
-use mathlib.Core.Bool.{true, false, cond}
+use Rattle.std.proofs.Common.{refl, true, false, cond, List, [], ◌∷◌, ◌++◌, ℕ, suc, ◌+◌, ◌*◌, ◌≤◌, ◌<◌, arith, eqb, length, length-append}
 use mathlib.Core.List.Memᴰ
-use mathlib.Core.List.{List, [], ◌∷◌, ◌++◌}
-use Prim.Native.Nat.{ℕ, suc, ◌+◌, ◌*◌, ◌≤◌, ◌<◌}
-use native.Mathlib.Omega.{arith}
-use lib.Dec.{eqb}
-use lib.ListN.{length, length-append}
 use Rattle.graph.specs.Lists.{◌∈◌, gather}
 use Rattle.graph.specs.Counts.{words_of}
 use Rattle.network.specs.declared.Answer.{Answer}

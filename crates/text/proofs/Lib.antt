@@ -1,4 +1,3 @@
 -- Laws of the lines.
-pub mod Texts
 pub mod Words
 pub mod Lengths

@@ -1,19 +1,14 @@
 -- The words of a list of rings make a line for each.
-use mathlib.Core.Path.{◌≡◌, refl, sym, ◌∙◌, ap}
+use Rattle.std.proofs.Common.{◌≡◌, refl, sym, ◌∙◌, ap, List, [], ◌∷◌, ◌++◌, append_assoc, append-nil, ℕ, suc, ◌<◌, arith, ne_eqb, length}
 use mathlib.Core.List.Memᴰ
-use mathlib.Core.List.{List, [], ◌∷◌, ◌++◌, append_assoc, append-nil}
-use Prim.Native.Nat.{ℕ, suc, ◌-◌, ◌<◌}
-use native.Mathlib.Omega.{arith}
-use borrow.Author.Tests.{ne_eqb}
-use lib.ListN.{length}
 use Rattle.graph.specs.Lists.{◌∈◌, gather}
 use Rattle.page.specs.Numbers.{number}
 use Rattle.text.specs.Lines.{space, newline, ring_name, ring_text, left_after, end_text, word_text, words_text}
-use Rattle.text.proofs.Texts.{left_begins, left_goes_on}
 
 -- a word in a ring of which m more atoms are to come after it
 after_word : (m w : ℕ) → left_after (suc m) w ≡ m
-after_word m w = sym (left_goes_on (suc m) w (omega arith)) ∙ (let e : suc m - 1 ≡ m = omega arith in e)
+unfolding left_after
+after_word m w = let z : suc m ≡ 0 → ⊥ = omega arith in rw (ne_eqb (suc m) 0 z) (omega arith)
 
 no_end : (m : ℕ) → end_text (suc m) ≡ []
 unfolding end_text
@@ -38,11 +33,10 @@ atoms_text a (b ∷ r) ws =
     ∙ sym (append_assoc (space ++ number a) (gather (λ b. space ++ number b) (b ∷ r)) (newline ++ words_text 0 ws))
 
 ring_line : (r ws : List ℕ) → 0 < length r → words_text 0 (length r ∷ (r ++ ws)) ≡ ring_text r ++ words_text 0 ws
-unfolding words_text word_text ring_text
+unfolding words_text word_text ring_text left_after
 ring_line [] ws h = absurd (omega arith)
 ring_line (a ∷ r) ws h =
-    ap (λ (m : ℕ). ((ring_name ++ number (suc (length r))) ++ end_text m) ++ words_text m (a ∷ (r ++ ws))) (sym (left_begins 0 (suc (length r)) refl))
-    ∙ ap (λ (x : List ℕ). x ++ words_text (suc (length r)) (a ∷ (r ++ ws))) (ap (λ (e : List ℕ). (ring_name ++ number (suc (length r))) ++ e) (no_end (length r)) ∙ append-nil (ring_name ++ number (suc (length r))))
+    ap (λ (x : List ℕ). x ++ words_text (suc (length r)) (a ∷ (r ++ ws))) (ap (λ (e : List ℕ). (ring_name ++ number (suc (length r))) ++ e) (no_end (length r)) ∙ append-nil (ring_name ++ number (suc (length r))))
     ∙ ap (λ (x : List ℕ). (ring_name ++ number (suc (length r))) ++ x) (atoms_text a r ws ∙ sym (append_assoc (gather (λ b. space ++ number b) (a ∷ r)) newline (words_text 0 ws)))
     ∙ sym (append_assoc (ring_name ++ number (suc (length r))) (gather (λ b. space ++ number b) (a ∷ r) ++ newline) (words_text 0 ws))
 

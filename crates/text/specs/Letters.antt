@@ -1,10 +1,8 @@
 -- Quoted text as bytes.
 --
 --   letters s      the bytes of a text of ASCII letters
-use Rattle.std.specs.Prelude.{List, [], ◌∷◌, ℕ}
-use Prim.Native.Char.{code}
-use Prim.Native.String.{String, [] as empty, ◌∷◌ as before}
+use Rattle.std.specs.Prelude.{List, ℕ, codes}
+use Prim.Native.String.{String}
 
 abbrev pub letters : String → List ℕ
-letters empty = []
-letters (before c s) = code c ∷ letters s
+letters = codes

@@ -4,6 +4,7 @@
 // Where the first call is refused, the second is given nothing: no rows, which are refused with 1, or no bytes, with 19.
 ghost use Rattle.demands.specs.Files.{ReadThenWrite, WriteThenRead, MolfileThenFile};
 
+use bnw::FileWritten;
 use demands::{ReadAndWritten, ReadAndWrittenAndRead};
 use network::Network;
 
@@ -13,7 +14,7 @@ pub fn read_then_write(file: &[u8], table: &mut [u16], lent: &mut [u8]) -> ReadA
 {
     let reading = bnw_reader::read(file, table);
     let words = Network::PLACES * reading.atoms;
-    let writing = bnw_writer::write(reading.atoms, &table[..words], lent);
+    let writing: FileWritten = bnw_writer::write(reading.atoms, &table[..words], lent).into();
     ReadAndWritten { reading, writing }
 }
 
@@ -21,9 +22,8 @@ pub fn read_then_write(file: &[u8], table: &mut [u16], lent: &mut [u8]) -> ReadA
 pub fn write_then_read(n: usize, rows: &[u16], file: &mut [u8], table: &mut [u16]) -> ReadAndWritten
     ensures { WriteThenRead n rows.now file.old file.new table.old table.new result }
 {
-    let writing = bnw_writer::write(n, rows, file);
-    let bytes = writing.bytes;
-    let reading = bnw_reader::read(&file[..bytes], table);
+    let writing: FileWritten = bnw_writer::write(n, rows, file).into();
+    let reading = bnw_reader::read(&file[..writing.bytes], table);
     ReadAndWritten { reading, writing }
 }
 
@@ -38,9 +38,8 @@ pub fn molfile_then_file(
 {
     let reading = molfile_reader::read(file, table);
     let words = Network::PLACES * reading.atoms;
-    let writing = bnw_writer::write(reading.atoms, &table[..words], out);
-    let bytes = writing.bytes;
-    let last = bnw_reader::read(&out[..bytes], again);
+    let writing: FileWritten = bnw_writer::write(reading.atoms, &table[..words], out).into();
+    let last = bnw_reader::read(&out[..writing.bytes], again);
     ReadAndWrittenAndRead {
         reading,
         writing,

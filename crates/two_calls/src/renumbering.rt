@@ -1,7 +1,7 @@
 // Demand 3: a network is renumbered, and listed or counted as it was and as renumbered.
 //
 // Where the renumbering is refused, what stands in the new table is listed or counted.
-ghost use Rattle.demands.specs.Renumbering.{RenumberThenList, RenumberThenCount};
+ghost use Rattle.demands.specs.Renumbering.{here_and_there_told, RenumberThenList, RenumberThenCount};
 
 use demands::HereAndThere;
 
@@ -18,7 +18,7 @@ pub fn renumber_then_list(
     dist2: &mut [u8],
     list2: &mut [u16],
 ) -> HereAndThere
-    ensures { RenumberThenList n table.now names.now renamed.old renamed.new limit allowance dist.old dist.new list.old list.new dist2.old dist2.new list2.old list2.new result }
+    ensures { RenumberThenList n table.now names.now renamed.old renamed.new limit allowance dist.old dist.new list.old list.new dist2.old dist2.new list2.old list2.new (here_and_there_told result) }
 {
     let renumbering = renumber::renumber(n, table, names, renamed);
     let here = search::list(n, table, limit, allowance, dist, list);
@@ -31,6 +31,7 @@ pub fn renumber_then_list(
 }
 
 // The same of counting.
+// Kept: two functions, since RenumberThenList and RenumberThenCount are ensured each; a closure for the search would be lent other buffers at each call.
 pub fn renumber_then_count(
     n: usize,
     table: &[u16],
@@ -41,7 +42,7 @@ pub fn renumber_then_count(
     dist: &mut [u8],
     dist2: &mut [u8],
 ) -> HereAndThere
-    ensures { RenumberThenCount n table.now names.now renamed.old renamed.new limit allowance dist.old dist.new dist2.old dist2.new result }
+    ensures { RenumberThenCount n table.now names.now renamed.old renamed.new limit allowance dist.old dist.new dist2.old dist2.new (here_and_there_told result) }
 {
     let renumbering = renumber::renumber(n, table, names, renamed);
     let here = search::count(n, table, limit, allowance, dist);

@@ -4,17 +4,15 @@
 mod faults;
 
 ghost use Rattle.std.specs.Prelude.{◌≡◌};
+ghost use Rattle.network.specs.Refusals.{told};
 ghost use Rattle.network.specs.Verdict.{verdict};
 
-use network::Answer;
+use network::Refusal;
 
 // The first fault of a bond table of n rows: refusals 1, 4, and 7 to 11.
-pub fn validate(n: usize, table: &[u16]) -> Answer
-    ensures { result ≡ verdict n table.now }
+pub fn validate(n: usize, table: &[u16]) -> Result<(), Refusal>
+    ensures { told result ≡ verdict n table.now }
 {
-    let sized = network::sizes(n, table);
-    if sized.code != 0 {
-        return sized;
-    }
+    network::sizes(n, table)?;
     faults::faults_in(n, table)
 }

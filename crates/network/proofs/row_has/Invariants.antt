@@ -6,6 +6,3 @@ use Rattle.network.proofs.row_has.Given as goal
 
 abbrev pub invariant-loop-p : goal.invariant-loop-p
 invariant-loop-p l = (l.p ≤ places) × (stands l.table l.x l.y places 0 ≡ stands l.table l.x l.y (places - l.p) l.p)
-
-abbrev pub decreases-loop-p : goal.decreases-loop-p
-decreases-loop-p l = places - l.p

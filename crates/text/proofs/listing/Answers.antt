@@ -1,5 +1,7 @@
-use Rattle.text.proofs.Texts.{listing_is}
+use Rattle.page.proofs.Pages.{then}
+use Rattle.text.specs.Lines.{listing_text}
 use Rattle.text.proofs.listing.Goals as goal
 
 pub returns : goal.returns
-returns c = listing_is _ _ _ _ _ _ _ _ _ _ c.sizes_line-first.ensures c.rings-listed.ensures c.counts-counted.ensures c.total.ensures
+unfolding listing_text
+returns c = then c.sizes_line.ensures (then c.rings.ensures (then c.counts.ensures c.total.ensures))

@@ -1,5 +1,7 @@
-use Rattle.text.proofs.Texts.{refusal_is}
+use Rattle.page.proofs.Pages.{then}
+use Rattle.text.specs.Lines.{refusal_text}
 use Rattle.text.proofs.refusal.Goals as goal
 
 pub returns : goal.returns
-returns c = refusal_is _ _ _ _ _ _ c.named-code.ensures c.named-row.ensures c.named-place.ensures c.byte.ensures
+unfolding refusal_text
+returns c = then c.named.ensures (then c.named-2.ensures (then c.named-3.ensures c.byte.ensures))

@@ -1,10 +1,6 @@
-use Prim.Native.Nat.{◌≤◌, ◌-◌}
-use lib.ListN.{length}
-use Rattle.ring.proofs.Readers.{Least}
+use Rattle.std.proofs.Common.{nat_lt}
+use Rattle.std.specs.List.{IsFirstBest}
 use Rattle.candidate.proofs.writing.least_place.Given as goal
 
 abbrev pub invariant-loop-i : goal.invariant-loop-i
-invariant-loop-i l = (l.i ≤ length l.ring) × Least l.ring l.least l.i
-
-abbrev pub decreases-loop-i : goal.decreases-loop-i
-decreases-loop-i l = length l.ring - l.i
+invariant-loop-i l = IsFirstBest nat_lt l.ring l.i l.least

@@ -4,5 +4,5 @@ use Rattle.census.proofs.checks.limit_used.Goals as goal
 pub returns-then-limit-eq0 : goal.returns-then-limit-eq0
 returns-then-limit-eq0 c = search limit_default_lem
 
-pub returns : goal.returns
-returns c = search limit_given
+pub returns-else-limit-eq0 : goal.returns-else-limit-eq0
+returns-else-limit-eq0 c = search limit_given

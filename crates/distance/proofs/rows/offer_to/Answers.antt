@@ -1,4 +1,4 @@
-use mathlib.Core.Path.{sym}
+use Rattle.std.proofs.Common.{sym}
 use Rattle.distance.proofs.Fills.{offer_taken, offer_set, filled_none, filled_one}
 use Rattle.distance.proofs.rows.offer_to.Goals as goal
 

@@ -1,11 +1,6 @@
-use Prim.Native.Nat.{◌≤◌, ◌-◌}
-use mathlib.Core.Path.{◌≡◌}
-use lib.ListN.{length}
+use Rattle.std.proofs.Common.{◌-◌, ◌≡◌, length}
 use Rattle.distance.specs.Levels.{level, PassFilled}
 use Rattle.distance.proofs.rows.pass.Given as goal
 
 abbrev pub invariant-loop-v : goal.invariant-loop-v
-invariant-loop-v l = (l.v ≤ length l.initial.row) × (level l.table l.d (length l.initial.row) 0 l.initial.row ≡ level l.table l.d (length l.initial.row - l.v) l.v l.row) × PassFilled l.initial.row l.row l.count
-
-abbrev pub decreases-loop-v : goal.decreases-loop-v
-decreases-loop-v l = length l.initial.row - l.v
+invariant-loop-v l = (level l.table l.d (length l.initial.row) 0 l.initial.row ≡ level l.table l.d (length l.initial.row - l.v) l.v l.row) × PassFilled l.initial.row l.row l.filled

@@ -1,17 +1,9 @@
-use Rattle.ring.proofs.Readers.{too_short, too_long, from_no_ring, from_no_place, from_words}
+use Rattle.std.proofs.Common.{rules, arith, inl, inr}
+use Rattle.ring.proofs.Readers.{reads_some, reads_none}
 use Rattle.ring.proofs.Ring.read.Goals as goal
 
-pub returns-then-words-lt-LEAST : goal.returns-then-words-lt-LEAST
-returns-then-words-lt-LEAST c = from_no_ring _ _ _ _ _ (too_short _ c.if-words-lt-LEAST.true) c.none.ensures.0 c.none.ensures.1
+pub returns-then-start-words : goal.returns-then-start-words
+returns-then-start-words c = search (reads_some, rules)
 
-pub returns-then-words-gt-LENGTH : goal.returns-then-words-gt-LENGTH
-returns-then-words-gt-LENGTH c = from_no_ring _ _ _ _ _ (too_long _ c.if-words-gt-LENGTH.true) c.none-then-words-gt-LENGTH.ensures.0 c.none-then-words-gt-LENGTH.ensures.1
-
-pub returns-then-words-start : goal.returns-then-words-start
-returns-then-words-start c = from_no_place _ _ _ c.if-words-lt-LEAST.false c.if-words-gt-LENGTH.false _ _ c.if-words-start.true c.none-then-words-start.ensures.0 c.none-then-words-start.ensures.1
-
-pub read-requires : goal.read-requires
-read-requires c = (c.if-words-start.false, c.if-words-gt-LENGTH.false)
-
-pub returns : goal.returns
-returns c = from_words _ _ _ c.if-words-lt-LEAST.false c.if-words-gt-LENGTH.false c.if-words-start.false _ _ c.read.ensures.0 c.read.ensures.1
+pub returns-else-contains : goal.returns-else-contains
+returns-else-contains c = reads_none _ _ _ (λ h. elim c.else-contains.either [ inl w ↦ omega (arith, h.2) | inr w ↦ search rules ])

@@ -1,18 +1,15 @@
-use mathlib.Core.Path.{◌≡◌}
-use Prim.Native.Nat.{◌-◌, ◌≤◌}
-use lib.ListN.{length, take}
-use Rattle.network.specs.Maxima.{places}
-use Rattle.census.specs.Census.{plain}
-use Rattle.notes.specs.Noting.{state, note_all, Fits}
-use Rattle.paths.specs.Turn.{may_follow}
-use Rattle.paths.specs.Search.{gather_below, branch}
+use Rattle.std.proofs.Common.{◌≡◌, ◌-◌, length}
+use Rattle.paths.specs.Search.{gather_below}
+use Rattle.search.specs.State.{HasNoted}
+use Rattle.search.proofs.Rows.{rings_by}
 use Rattle.search.proofs.grow.+grow.Given as goal
 
 abbrev pub decreases-grow : goal.decreases-grow
-decreases-grow l = l.left
+decreases-grow l = l.k - length l.path.now
 
-abbrev pub invariant-loop-i : goal.invariant-loop-i
-invariant-loop-i l = (l.i ≤ places) × ((length l.list ≡ length l.initial.list) × ((state l.f l.list ≡ note_all length plain l.allowance (gather_below l.i (branch (may_follow l.n l.dist l.k) l.n l.table l.dist l.k (l.left - 1) (take l.len l.initial.path))) (state l.initial.f l.initial.list)) × (Fits l.f × ((take l.len l.path ≡ take l.len l.initial.path) × (length l.path ≡ length l.initial.path)))))
-
-abbrev pub decreases-loop-i : goal.decreases-loop-i
-decreases-loop-i l = places - l.i
+abbrev pub invariant-loop-place : goal.invariant-loop-place
+invariant-loop-place l = record {
+  kept : l.path ≡ l.initial.path;
+  noted : HasNoted (gather_below l.place (rings_by l.net l.k l.initial.path)) l.initial.notes l.notes;
+  same_list : l.notes.list.ghost_name ≡ l.initial.notes.list.ghost_name;
+}

@@ -1,19 +1,12 @@
-use Prim.Native.Nat.{suc}
-use mathlib.Core.Path.{◌≡◌, refl}
-use native.Mathlib.Omega.{arith}
-use Rattle.std.proofs.Common.{rules}
-use lib.ListN.{length}
-use Rattle.ring.specs.Maxima.{ring_most}
-use Rattle.text.proofs.Texts.{counts_next, counts_done}
+use Rattle.std.proofs.lemmas.List.{at_drop_more, at_drop_all}
+use Rattle.page.proofs.Pages.{puts_nothing, then}
+use Rattle.text.specs.Lines.{counts_text}
 use Rattle.text.proofs.lines.counts.Goals as goal
 
-pub loop-k-init : goal.loop-k-init
-loop-k-init c = (omega arith, refl, refl)
-
-pub loop-k-preserved : goal.loop-k-preserved
-loop-k-preserved c = let long : length c.args.counts ≡ suc ring_most = search rules in
-    (omega arith, search rules, counts_next _ _ _ _ _ c.loop-k.invariant.2 (omega arith) c.count-p.ensures)
+pub loop-length-preserved : goal.loop-length-preserved
+unfolding counts_text
+loop-length-preserved c = λ whole h. c.loop-length.invariant whole (rw (at_drop_more (counts_text c.loop-length.length) _ _ 0 c.loop-length-test.true) (then c.count.ensures h))
 
 pub returns : goal.returns
-returns c = let long : length c.args.counts ≡ suc ring_most = search rules in
-    counts_done _ _ _ _ c.loop-k.invariant.2 (omega arith) (omega arith)
+unfolding counts_text
+returns c = c.loop-length.invariant _ (rw (at_drop_all (counts_text c.loop-length.length) _ _ c.loop-length-test.false) (puts_nothing _))

@@ -1,17 +1,13 @@
-use mathlib.Core.Path.{refl}
-use native.Mathlib.Omega.{arith}
-use Rattle.std.proofs.Common.{rules}
-use Rattle.text.proofs.Texts.{words_next, words_done}
+use Rattle.std.proofs.lemmas.List.{at_drop_more, at_drop_all}
+use Rattle.page.proofs.Pages.{puts_nothing, then}
+use Rattle.text.specs.Lines.{words_text}
 use Rattle.text.proofs.lines.rings.Goals as goal
 
-pub loop-i-init : goal.loop-i-init
-loop-i-init c = (omega arith, refl, refl)
-
-pub overflow_cast-w : goal.overflow_cast-w
-overflow_cast-w c = omega (arith, c.type_inv.list c.loop-i.i)
-
-pub loop-i-preserved : goal.loop-i-preserved
-loop-i-preserved c = (omega arith, search rules, words_next _ _ _ _ _ _ _ c.loop-i.invariant.2 c.loop-i-test.true c.word-p.ensures c.left_after-left.ensures)
+pub loop-word-preserved : goal.loop-word-preserved
+unfolding words_text
+loop-word-preserved c = λ whole h.
+    c.loop-word.invariant whole (rw (at_drop_more (words_text c.loop-word.left) _ _ 0 c.loop-word-test.true) (then c.list_word.ensures (rw c.left_after-left.ensures at h)))
 
 pub returns : goal.returns
-returns c = words_done _ _ _ _ _ c.loop-i.invariant.2 c.loop-i.invariant.0 c.loop-i-test.false
+unfolding words_text
+returns c = c.loop-word.invariant _ (rw (at_drop_all (words_text c.loop-word.left) _ _ c.loop-word-test.false) (puts_nothing _))

@@ -1,5 +1,7 @@
-use Rattle.text.proofs.Texts.{sizes_are}
+use Rattle.page.proofs.Pages.{then}
+use Rattle.text.specs.Lines.{sizes_text}
 use Rattle.text.proofs.lines.sizes_line.Goals as goal
 
 pub returns : goal.returns
-returns c = sizes_are _ _ _ _ _ _ c.named-first.ensures c.named-second.ensures c.byte.ensures
+unfolding sizes_text
+returns c = then c.named.ensures (then c.named-2.ensures c.byte.ensures)

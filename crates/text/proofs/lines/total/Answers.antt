@@ -1,5 +1,7 @@
-use Rattle.text.proofs.Texts.{total_is}
+use Rattle.page.proofs.Pages.{then}
+use Rattle.text.specs.Lines.{total_text}
 use Rattle.text.proofs.lines.total.Goals as goal
 
 pub returns : goal.returns
-returns c = total_is _ _ _ _ c.named-number.ensures c.byte.ensures
+unfolding total_text
+returns c = then c.named.ensures c.byte.ensures

@@ -7,9 +7,6 @@ use Rattle.validator.proofs.faults.bond_fault.Goals as goal
 pub returns-then-word : goal.returns-then-word
 returns-then-word c = search (bond_free)
 
-pub overflow_cast-word : goal.overflow_cast-word
-overflow_cast-word c = omega (arith, c.type_inv.table c.args.i)
-
 pub returns-then-stands_in : goal.returns-then-stands_in
 unfolding WordsBelow
 returns-then-stands_in c = let room = c.requires.2 c.args.i c.requires.0 c.if-word.false in

@@ -1,12 +1,8 @@
 use Rattle.network.proofs.PlaceFaults.{fault_free, fault_7, fault_8, fault_9, fault_9_first, fault_10, fault_none, fault_none_first}
-use native.Mathlib.Omega.{arith}
 use Rattle.validator.proofs.faults.place_fault.Goals as goal
 
 pub returns-then-word : goal.returns-then-word
 returns-then-word c = search fault_free
-
-pub overflow_cast-word : goal.overflow_cast-word
-overflow_cast-word c = omega (arith, c.type_inv.table c.args.i)
 
 pub returns-then-n-word : goal.returns-then-n-word
 returns-then-n-word c = search fault_7

@@ -1,0 +1,2 @@
+-- How the reader holds the bonds of a file.
+pub mod FileBonds

@@ -1,0 +1,2 @@
+-- Counting the bonds of a table, and writing one.
+pub mod Bonds

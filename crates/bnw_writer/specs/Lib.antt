@@ -1,0 +1,2 @@
+-- Which words of a table are bonds to write.
+pub mod Words

@@ -1,2 +1,0 @@
--- The lengths of parts of arrays, for the programs that print them (Parts).
-pub mod Parts

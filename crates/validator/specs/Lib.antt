@@ -1,0 +1,2 @@
+-- What the validator's search for a first fault says.
+pub mod Scan
