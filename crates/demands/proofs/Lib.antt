@@ -10,6 +10,7 @@ pub mod OneListing
 pub mod SameRings
 pub mod FilesReturn
 pub mod OneOutcome
+pub mod LosesNothing
 pub mod Examples
 pub mod FigureFile
 pub mod FigureText
