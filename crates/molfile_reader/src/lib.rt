@@ -7,6 +7,7 @@ mod rows;
 
 ghost use Rattle.molfile.specs.Judging.{MolfileOutcome};
 
+use crate::rows::Rows;
 use bonds::Reading;
 use network::Network;
 
@@ -19,10 +20,10 @@ pub fn read(file: &[u8], table: &mut [u16]) -> Reading
         Ok(counts) => counts,
         Err((reason, value)) => return Reading::refused(reason.into(), value),
     };
-    let rows = match pairs::rows_of(atoms, molfile_lines::skip(rest, atoms + 1), bonds) {
-        Ok(rows) => rows,
-        Err(refusal) => return Reading::refused(refusal, 0),
-    };
+    let mut rows = Rows::free(atoms);
+    if let Err(refusal) = pairs::hold(molfile_lines::skip(rest, atoms + 1), bonds, &mut rows) {
+        return Reading::refused(refusal, 0);
+    }
     table[..Network::PLACES * atoms].copy_from_slice(rows.table());
     Reading::accepted(atoms, bonds)
 }

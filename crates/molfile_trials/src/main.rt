@@ -7,8 +7,8 @@ ghost use Rattle.std.specs.Prelude.{◌≤◌};
 
 use network::Network;
 use say::{Shown, ShownWords};
+use std::io;
 use std::io::Write;
-use std::{io, str};
 
 // The words of the greatest table.
 const WORDS: usize = Network::ATOMS * Network::PLACES;
@@ -25,22 +25,27 @@ fn main(rt: HostRuntime) -> io::Result<()> {
     Ok(())
 }
 
-// The three parts of a case.
+// The three parts of a case: any four bytes tell the words, and the byte after them may be any.
 fn part(rt: &impl Print, case: &[u8]) -> io::Result<()> {
-    let mut parts = case.splitn(3, |byte| *byte == b'|');
-    if let (Some(name), Some(digits), Some(file)) = (parts.next(), parts.next(), parts.next())
-        && let Some(words) = number(digits)
-        && words <= WORDS
-    {
-        io::writer(rt).write_all(name)?;
-        print!(rt; ", words {words}, ")?;
-        read(rt, file, words)?;
+    let bar = case
+        .iter()
+        .position(|byte| *byte == b'|')
+        .unwrap_or(case.len());
+    let (name, rest) = case.split_at(bar);
+    if let Some(([_, a, b, c, d, _], file)) = rest.split_first_chunk::<6>() {
+        let words = number([*a, *b, *c, *d]);
+        if words <= WORDS {
+            io::writer(rt).write_all(name)?;
+            print!(rt; ", words {words}, ")?;
+            read(rt, file, words)?;
+        }
     }
     Ok(())
 }
 
-fn number(digits: &[u8]) -> Option<usize> {
-    str::from_utf8(digits).ok()?.parse().ok()
+fn number(digits: [u8; 4]) -> usize {
+    let [a, b, c, d] = digits.map(|digit| usize::from(digit % b'0'));
+    1000 * a + 100 * b + 10 * c + d
 }
 
 // Reads a file into the first words of the greatest table.

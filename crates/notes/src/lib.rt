@@ -53,11 +53,14 @@ fn add(ring: &[u16], allowance: u32, found: Found, list: &mut [u16]) -> Found
 }
 
 // The ring's length and atoms are written from `at` on.
-// Kept: the place in the list beside it, since the contract says what becomes of the whole list.
+// Kept: the place in the list beside it, since the contract says what becomes of the whole list; and a loop, since `copy_from_slice` makes the
+// archive for C need a `memmove` from outside, as it did not before.
 fn write_ring(ring: &[u16], at: usize, list: &mut [u16])
     requires { (length ring.now ≤ ring_most) × (at + length ring.now < length list.old) }
     ensures { list.new ≡ sets list.old at (length ring.now ∷ ring.now) }
 {
     list[at] = ring.len() as u16;
-    list[at + 1..at + 1 + ring.len()].copy_from_slice(ring);
+    for i in 0..ring.len() {
+        list[at + 1 + i] = ring[i];
+    }
 }

@@ -48,10 +48,14 @@ impl fmt::Display for ShownBytes<'_> {
     }
 }
 
-// Bytes, `width` to a line.
+// Bytes, `width` to a line; a line that lacks some does not end.
 pub fn rows(rt: &impl Print, bytes: &[u8], width: usize) -> io::Result<()> {
-    for row in bytes.chunks(width.max(1)) {
-        println!(rt; "{}", ShownBytes(row))?;
+    let whole = width.max(1);
+    for row in bytes.chunks(whole) {
+        print!(rt; "{}", ShownBytes(row))?;
+        if row.len() == whole {
+            println!(rt)?;
+        }
     }
     Ok(())
 }

