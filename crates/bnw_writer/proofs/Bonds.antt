@@ -1,8 +1,8 @@
 -- The words that are bonds: what `bonds` makes of each, and how many there are.
-use Rattle.std.proofs.Common.{◌≡◌, refl, sym, ap, ap₂, ◌∙◌, cond, true, false, List, [], ◌∷◌, ℕ, suc, ◌+◌, ◌/◌, ◌<◌, ◌≤◌, length, get_or, count_by, length-append, add-one, arith}
+use Rattle.std.proofs.Common.{◌≡◌, refl, sym, ap, ap₂, ◌∙◌, cond, true, false, List, [], ◌∷◌, ℕ, suc, ◌+◌, ◌/◌, ◌<◌, ◌≤◌, length, get_or, take, count_by, length-append, add-one, add-zero, arith}
 use Rattle.std.specs.List.{enumerate_from}
-use Rattle.std.proofs.lemmas.List.Sums.{sum_by-cons, count_by-le-length}
-use Rattle.std.proofs.lemmas.List.FromFn.{length-enumerate_from}
+use Rattle.std.proofs.lemmas.List.Sums.{sum_by-cons, count_by-le-length, count_by_more_yes, count_by_more_no}
+use Rattle.std.proofs.lemmas.List.FromFn.{length-enumerate_from, get_or-enumerate_from}
 use Rattle.graph.specs.Lists.{gather, numbers_from}
 use Rattle.network.specs.Maxima.{places}
 use Rattle.bonds.specs.Bonds.{bond, bond_at, bonds_of}
@@ -41,6 +41,18 @@ counted_from t (w ∷ xs) a e =
 pub counted : (t : List ℕ) → count_by (λ (x : ℕ × ℕ). is_bond x.0 x.1) (enumerate_from 0 t) ≡ length (bonds_of t)
 unfolding bonds_of
 counted t = counted_from t t 0 (λ k i d l. let z : i ≡ k = omega arith in rw z refl)
+
+-- one word more
+pub counted_next : (t : List ℕ) (i : ℕ) → i < length t
+    → count_by (λ (x : ℕ × ℕ). is_bond x.0 x.1) (take (i + 1) (enumerate_from 0 t)) ≡ count_by (λ (x : ℕ × ℕ). is_bond x.0 x.1) (take i (enumerate_from 0 t)) + cond (is_bond i (get_or t i 0)) 1 0
+counted_next t i l =
+    let none : 0 + i ≡ i = omega arith in
+    let at : get_or (enumerate_from 0 t) i (0, 0) ≡ (i, get_or t i 0) = get_or-enumerate_from 0 t i (0, 0) l ∙ ap (λ (k : ℕ). (k, get_or t i 0)) none in
+    let inside : i < length (enumerate_from 0 t) = rw length-enumerate_from l in
+    elim (is_bond i (get_or t i 0)) as (λ b. is_bond i (get_or t i 0) ≡ b → count_by (λ (x : ℕ × ℕ). is_bond x.0 x.1) (take (i + 1) (enumerate_from 0 t)) ≡ count_by (λ (x : ℕ × ℕ). is_bond x.0 x.1) (take i (enumerate_from 0 t)) + cond b 1 0) [
+      | true ↦ λ h. count_by_more_yes (λ (x : ℕ × ℕ). is_bond x.0 x.1) (enumerate_from 0 t) i (0, 0) inside (rw at h)
+      | false ↦ λ h. count_by_more_no (λ (x : ℕ × ℕ). is_bond x.0 x.1) (enumerate_from 0 t) i (0, 0) inside (rw at h) ∙ sym (add-zero _)
+    ] refl
 
 -- a table has no more bonds than words
 pub no_more : (t : List ℕ) → count_by (λ (x : ℕ × ℕ). is_bond x.0 x.1) (enumerate_from 0 t) ≤ length t
