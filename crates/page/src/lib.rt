@@ -5,11 +5,11 @@ ghost use Rattle.std.specs.Prelude.{◌≡◌, [], ◌∷◌, ◌++◌};
 ghost use Rattle.page.specs.Page.{page, first_pen, sheet, Puts};
 ghost use Rattle.page.specs.Numbers.{number};
 
-// A lent buffer with a pen over it, which is where the next byte goes: nowhere, once a byte had no room.
+// A lent buffer with a pen over it, which is where the next byte goes: nowhere, once a byte had no room. A page may be begun at any byte.
 #[derive(Drop)]
 pub struct Page<'a> {
-    out: &'a mut [u8],
-    pen: Option<usize>,
+    pub out: &'a mut [u8],
+    pub pen: Option<usize>,
 }
 
 impl<'a> Page<'a> {
